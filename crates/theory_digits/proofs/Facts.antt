@@ -1,0 +1,152 @@
+-- Facts by which the number t of digits d at an end of x can be told. Our counts keep all of them, and whatever keeps enough of them is our count.
+use mathlib.Core.Path.{_≡_, sym, _∙_}
+use mathlib.Core.Logic.{_↔_}
+use Prim.Native.Nat.{ℕ, zero, suc, _-_, _*_, _/_, _%_, _^_, _≤_, _<_}
+use native.Mathlib.Omega.{arith}
+use lib.Pow.{pow-pos}
+use Rattle.theory_digits.specs.Runs.{trailing, leading}
+use Rattle.theory_digits.proofs.Ends.{trailing-within, trailing-before, trailing-ended, trailing-is, trailing-all, trailing-shifted, trailing-ones, leading-within, leading-before, leading-ended, leading-is, leading-all, leading-shifted, leading-ones}
+
+-- the number whose digit is 0 where that of x is d
+abbrev pub apart : ℕ → ℕ → ℕ → ℕ
+apart zero w x = x
+apart (suc d) w x = 2 ^ w - 1 - x
+
+-- ---- the facts, one by one
+
+module _ (d w x t : ℕ) where
+  -- no more than there are
+  abbrev pub Within : Type 0
+  Within = t ≤ w
+
+  -- all of them just where x has no other digit
+  abbrev pub All : Type 0
+  All = (x ≡ d * (2 ^ w - 1)) ↔ (t ≡ w)
+
+  -- the next digit is the other one
+  abbrev pub LowNext : Type 0
+  LowNext = t < w → x / 2 ^ t % 2 ≡ 1 - d
+
+  abbrev pub HighNext : Type 0
+  HighNext = t < w → x / 2 ^ (w - 1 - t) % 2 ≡ 1 - d
+
+  -- the digits before it are d
+  abbrev pub LowBefore : Type 0
+  LowBefore = (j : ℕ) → j < t → x / 2 ^ j % 2 ≡ d
+
+  abbrev pub HighBefore : Type 0
+  HighBefore = (j : ℕ) → w - t ≤ j → j < w → x / 2 ^ j % 2 ≡ d
+
+  -- and nothing is left where the others are shifted out
+  abbrev pub LowShifted : Type 0
+  LowShifted = apart d w x * 2 ^ (w - t) % 2 ^ w ≡ 0
+
+  abbrev pub HighShifted : Type 0
+  HighShifted = apart d w x / 2 ^ (w - t) ≡ 0
+
+pub record AtLow (d w x t : ℕ) : Type 0 where
+  pub within : Within d w x t
+  pub all : All d w x t
+  pub next : LowNext d w x t
+  pub shifted : LowShifted d w x t
+  pub before : LowBefore d w x t
+
+pub record AtHigh (d w x t : ℕ) : Type 0 where
+  pub within : Within d w x t
+  pub all : All d w x t
+  pub next : HighNext d w x t
+  pub shifted : HighShifted d w x t
+  pub before : HighBefore d w x t
+
+-- ---- our counts keep them
+
+complement-below : (w x : ℕ) → 2 ^ w - 1 - x < 2 ^ w
+complement-below w x = omega (arith, pow-pos w)
+
+low-shifted : (d w x : ℕ) → d < 2 → x < 2 ^ w → LowShifted d w x (trailing d w x)
+low-shifted zero w x h b = trailing-shifted x (trailing-within 0 w x) .0 (omega arith)
+low-shifted (suc zero) w x h b =
+    rw (trailing-ones w b) (trailing-shifted (2 ^ w - 1 - x) (trailing-within 0 w (2 ^ w - 1 - x)) .0 (omega arith))
+low-shifted (suc (suc d)) w x h b = absurd (omega arith)
+
+high-shifted : (d w x : ℕ) → d < 2 → x < 2 ^ w → HighShifted d w x (leading d w x)
+high-shifted zero w x h b = leading-shifted x (leading-within 0 w x) b .0 (omega arith)
+high-shifted (suc zero) w x h b =
+    rw (leading-ones w b)
+    (leading-shifted (2 ^ w - 1 - x) (leading-within 0 w (2 ^ w - 1 - x)) (complement-below w x) .0 (omega arith))
+high-shifted (suc (suc d)) w x h b = absurd (omega arith)
+
+module _ (d w x : ℕ) (h : d < 2) (b : x < 2 ^ w) where
+  pub low-facts : AtLow d w x (trailing d w x)
+  low-facts = record {
+    within = trailing-within d w x;
+    all = trailing-all h b;
+    next = λ l. (let n : x / 2 ^ trailing d w x % 2 ≡ d → ⊥ = trailing-ended d w x l in omega arith);
+    shifted = low-shifted d w x h b;
+    before = trailing-before d w x;
+  }
+
+  pub high-facts : AtHigh d w x (leading d w x)
+  high-facts = record {
+    within = leading-within d w x;
+    all = leading-all h b;
+    next = λ l. (let n : x / 2 ^ (w - 1 - leading d w x) % 2 ≡ d → ⊥ = leading-ended d w x l in omega arith);
+    shifted = high-shifted d w x h b;
+    before = leading-before d w x;
+  }
+
+-- ---- enough of them
+
+module _ (d w x t : ℕ) (h : d < 2) where
+  pub low-by-bits : Within d w x t → LowNext d w x t → LowBefore d w x t → t ≡ trailing d w x
+  low-by-bits within next before = trailing-is d w x t within before (λ l e. omega (arith, next l))
+
+  pub high-by-bits : Within d w x t → HighNext d w x t → HighBefore d w x t → t ≡ leading d w x
+  high-by-bits within next before = leading-is d w x t within before (λ l e. omega (arith, next l))
+
+  -- `all` in place of `within`: where every digit is d there is no more to count
+  module _ (b : x < 2 ^ w) where
+    pub low-by-all : All d w x t → LowNext d w x t → LowBefore d w x t → t ≡ trailing d w x
+    low-by-all all next before =
+        let short : w < t → ⊥ = λ l.
+        (let full : w ≡ trailing d w x = trailing-is d w x w (omega arith) (λ j g. before j (omega arith)) (λ g e. omega arith) in
+        omega (arith, all .0 (trailing-all h b .1 (sym full)))) in
+        low-by-bits (omega arith) next before
+
+    pub high-by-all : All d w x t → HighNext d w x t → HighBefore d w x t → t ≡ leading d w x
+    high-by-all all next before =
+        let short : w < t → ⊥ = λ l.
+        (let full : w ≡ leading d w x = leading-is d w x w (omega arith) (λ j a g. before j (omega arith) g) (λ g e. omega arith) in
+        omega (arith, all .0 (leading-all h b .1 (sym full)))) in
+        high-by-bits (omega arith) next before
+
+-- `shifted` in place of `before`
+low-reaches : (d w x t : ℕ) → d < 2 → x < 2 ^ w → t ≤ w → LowShifted d w x t → t ≤ trailing d w x
+low-reaches zero w x t h b within s = trailing-shifted x within .1 s
+low-reaches (suc zero) w x t h b within s = rw (trailing-ones w b) (trailing-shifted (2 ^ w - 1 - x) within .1 s)
+low-reaches (suc (suc d)) w x t h b within s = absurd (omega arith)
+
+high-reaches : (d w x t : ℕ) → d < 2 → x < 2 ^ w → t ≤ w → HighShifted d w x t → t ≤ leading d w x
+high-reaches zero w x t h b within s = leading-shifted x within b .1 s
+high-reaches (suc zero) w x t h b within s = rw (leading-ones w b) (leading-shifted (2 ^ w - 1 - x) within (complement-below w x) .1 s)
+high-reaches (suc (suc d)) w x t h b within s = absurd (omega arith)
+
+module _ (d w x t : ℕ) (h : d < 2) (b : x < 2 ^ w) where
+  pub low-by-shift : Within d w x t → LowNext d w x t → LowShifted d w x t → t ≡ trailing d w x
+  low-by-shift within next s =
+      let reach = low-reaches d w x t h b within s in
+      low-by-bits d w x t h within next (λ j l. trailing-before d w x j (omega arith))
+
+  pub high-by-shift : Within d w x t → HighNext d w x t → HighShifted d w x t → t ≡ leading d w x
+  high-by-shift within next s =
+      let reach = high-reaches d w x t h b within s in
+      high-by-bits d w x t h within next (λ j a l. leading-before d w x j (omega arith) l)
+
+-- ---- so the whole list pins its answer
+
+pub low-pinned : (d w x s t : ℕ) → d < 2 → AtLow d w x s → AtLow d w x t → s ≡ t
+low-pinned d w x s t h p q = low-by-bits d w x s h (p .within) (p .next) (p .before) ∙ sym (low-by-bits d w x t h (q .within) (q .next) (q .before))
+
+pub high-pinned : (d w x s t : ℕ) → d < 2 → AtHigh d w x s → AtHigh d w x t → s ≡ t
+high-pinned d w x s t h p q =
+    high-by-bits d w x s h (p .within) (p .next) (p .before) ∙ sym (high-by-bits d w x t h (q .within) (q .next) (q .before))

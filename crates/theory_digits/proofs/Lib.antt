@@ -1,0 +1,13 @@
+pub mod Digits
+pub mod Parts
+pub mod High
+pub mod Bases
+pub mod Runs
+pub mod Bits
+pub mod Ends
+pub mod Counting
+pub mod Reading
+pub mod Writing
+pub mod Facts
+pub mod TooFew
+pub mod Powers

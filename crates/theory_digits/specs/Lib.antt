@@ -1,0 +1,5 @@
+pub mod Digits
+pub mod Bases
+pub mod Runs
+pub mod Powers
+pub mod Answers

@@ -1,0 +1,9 @@
+pub mod Says
+pub mod Part
+pub mod Written
+pub mod Tests
+pub mod Reverse
+pub mod Filled
+pub mod Moved
+pub mod Lent
+pub mod Pieces

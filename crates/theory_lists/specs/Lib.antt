@@ -1,0 +1,4 @@
+pub mod Says
+pub mod Part
+pub mod Written
+pub mod Pieces

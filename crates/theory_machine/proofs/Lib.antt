@@ -1,0 +1,7 @@
+pub mod Bits
+pub mod Signs
+pub mod Sums
+pub mod Products
+pub mod Divisions
+pub mod Orders
+pub mod Shifts

@@ -1,0 +1,14 @@
+-- Reading byte by byte: between two scalars nothing must follow; inside one, bytes of the ranges that are left of its row.
+use Prim.Native.Nat.{ℕ}
+use mathlib.Core.Bool.{cond}
+use mathlib.Core.List.{List, [], _∷_}
+use Rattle.theory_text.specs.Table.{After, more, wrong, has, after}
+
+abbrev pub step : After → ℕ → After
+step wrong b = wrong
+step (more []) b = after b
+step (more (r ∷ rs)) b = cond (has r b) (more rs) wrong
+
+abbrev pub run : After → List ℕ → After
+run q [] = q
+run q (b ∷ bs) = run (step q b) bs

@@ -1,0 +1,16 @@
+pub mod Cases
+pub mod Halves
+pub mod Congruence
+pub mod Alike
+pub mod Fits
+pub mod Wrap
+pub mod Refuse
+pub mod Clamp
+pub mod Overflow
+pub mod Divisions
+pub mod Quotients
+pub mod Unsigned
+pub mod Products
+pub mod Multiples
+pub mod Orders
+pub mod Meaning
