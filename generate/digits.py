@@ -1,0 +1,88 @@
+"""Families B and C: the crate zeros, which holds the functions of every width in one file, and the crates number_bytes16 .. number_bytes64.
+
+lib.rt.in is how the file begins, width.rt.in follows once for each width that it holds, and behind it end.rt.in or order.rt.in for each end or order; the name of a
+proof's template is that of its function, with words in capitals too."""
+import os
+import re
+
+from templates import CRATES, TEMPLATES, WIDTHS, filled, read, templates, words
+
+# The ends of a number's digits: what is counted there, which digits are left where those at the other end are shifted out, and how they are.
+ENDS = [
+    {"END": "leading", "COUNT": "LeadingCount", "LEFT": "upper", "SHIFT": ">>"},
+    {"END": "trailing", "COUNT": "TrailingCount", "LEFT": "lower", "SHIFT": "<<"},
+]
+# The two orders of a number's bytes.
+ORDERS = [{"ORDER": "le", "NUMBER": "number", "DIGITS": "digits"}, {"ORDER": "be", "NUMBER": "numberHigh", "DIGITS": "digitsHigh"}]
+# The crates: their templates, which widths they hold, and what exists once for each end or order.
+WHOLE = [("zeros", "zeros", WIDTHS[:4], "end", ENDS)]
+WHOLE += [("number_bytes" + width[0], "number_bytes", [width], "order", ORDERS) for width in WIDTHS[1:4]]
+
+
+def byte_words(type_suffix, bits, order):
+    """The words that list a number's bytes, b0 the lowest."""
+    places = list(range(bits // 8))
+    listed = places if order.get("ORDER") == "le" else places[::-1]
+    joined = "b%d" % places[-1]
+    for place in places[-2::-1]:
+        joined = "b%d + 256 * %s" % (place, "(%s)" % joined if " " in joined else joined)
+    return {
+        "BYTES": str(len(places)),
+        "LAST": str(len(places) - 1),
+        "CRATE": "number_bytes" + type_suffix,
+        "PARAMETERS": ", ".join("b%d: u8" % place for place in places),
+        "JOINED": joined,
+        "READ": ", ".join("s[%d]" % place for place in listed),
+        "LISTED": ", ".join("b%d" % place for place in listed),
+    }
+
+
+def for_each_byte(text, bits):
+    """Lines that begin with EACH stand, together, for such lines for each byte but the lowest."""
+
+    def repeated(match):
+        lines = match.group().replace("EACH ", "")
+        return "".join(
+            lines.replace("PLACE", str(place)).replace("BELOW", str(place - 1)).replace("SCALE", str(256**place)) for place in range(1, bits // 8)
+        )
+
+    return re.sub(r"(^ *EACH .*\n)+", repeated, text, flags=re.M)
+
+
+def whole_crates():
+    for name, source, widths, part, each in WHOLE:
+        folder = os.path.join(TEMPLATES, source)
+        lib = read(os.path.join(folder, "lib.rt.in"))
+        for suffix, type_suffix, bits in widths:
+            code = templates(folder, bits)
+            table = {**words(suffix, type_suffix, bits), **byte_words(type_suffix, bits, {})}
+            lib += filled(for_each_byte(code["width"], bits), table)
+            for further in each:
+                table = {**table, **byte_words(type_suffix, bits, further), **further}
+                lib += filled(for_each_byte(code[part], bits), table)
+                for function, proof in templates(os.path.join(folder, "proofs"), bits).items():
+                    yield os.path.join(CRATES, name, "proofs", filled(function, table), "Proof.antt"), filled(for_each_byte(proof, bits), table)
+        yield os.path.join(CRATES, name, "src", "lib.rt"), lib
+
+
+def face():
+    """The face's modules for both families: promises_zeros, with a function for each end and kind of digit, and promises_bytes."""
+    counts = [{"END": end, "KIND": kind} for end in ("leading", "trailing") for kind in ("zeros", "ones")]
+    for name, widths, each in (("zeros", WIDTHS[:4], counts), ("bytes", WIDTHS[1:4], [{}])):
+        folder, module = os.path.join(TEMPLATES, "promisebook"), "promises_" + name
+        code = read(os.path.join(folder, name, "begin.rt.in"))
+        for suffix, type_suffix, bits in widths:
+            table = {**words(suffix, type_suffix, bits), **byte_words(type_suffix, bits, {})}
+            parts = templates(os.path.join(folder, name), bits)
+            code += filled(parts["width"], table)
+            for further in each:
+                code += filled(parts.get("count", ""), {**table, **further})
+                for function, proof in templates(os.path.join(folder, "proofs", name), bits).items():
+                    named = {**table, **further}
+                    yield os.path.join(CRATES, "promisebook", "proofs", module, filled(function, named), "Proof.antt"), filled(proof, named)
+        yield os.path.join(CRATES, "promisebook", "src", module + ".rt"), code
+
+
+def files():
+    yield from whole_crates()
+    yield from face()

@@ -1,0 +1,49 @@
+#!/usr/bin/env python3
+"""Writes what exists once per width, from templates: the crates unsigned8 .. signed_size, zeros and number_bytes16 .. number_bytes64, the face's modules,
+and what the programs have of each kind.
+
+    python3 generate/generate.py           write
+    python3 generate/generate.py --check   only compare; exit status 1 where a file differs, is missing, or is one too many
+
+A template is the code itself with some words in capitals (the table `words` in templates.py). NAME.VARIANT.rt.in stands in for NAME.rt.in at the widths of
+that variant."""
+import os
+import sys
+
+import digits
+import integers
+import programs
+from templates import CRATES, read
+
+FAMILIES = [integers, digits, programs]
+
+
+def stored(made):
+    """The files of the folders that hold generated files alone."""
+    for folder in {os.path.dirname(path) for path in made if os.path.basename(path) == "Proof.antt"}:
+        for place, _, files in os.walk(os.path.dirname(folder)):
+            yield from (os.path.join(place, file) for file in files)
+
+
+def main():
+    check = sys.argv[1:] == ["--check"]
+    if sys.argv[1:] and not check:
+        sys.exit(__doc__)
+    made = {path: text for family in FAMILIES for path, text in family.files()}
+    strays = sorted(set(stored(made)) - set(made))
+    changed = [path for path, text in made.items() if not os.path.exists(path) or read(path) != text]
+    for path in changed + strays:
+        print("%s: %s" % (os.path.relpath(path, os.path.dirname(CRATES)), "is not generated" if path in strays else "differs from its template"))
+    if check:
+        print("generated files: %d, %d wrong" % (len(made), len(changed) + len(strays)))
+        sys.exit(1 if changed or strays else 0)
+    for path in changed:
+        os.makedirs(os.path.dirname(path), exist_ok=True)
+        with open(path, "w", encoding="utf-8") as file:
+            file.write(made[path])
+    for path in strays:
+        os.remove(path)
+
+
+if __name__ == "__main__":
+    main()
