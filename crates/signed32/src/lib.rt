@@ -1,0 +1,314 @@
+// Signed integers of 32 bits: one operation on whole numbers, then wrap or refuse (theory_whole). No function asks anything of its caller.
+ghost use mathlib.Core.Path.{_≡_};
+ghost use mathlib.Core.Bool.{true, false, not, cond, _&&_};
+ghost use Prim.Native.Nat.{_%_, _^_};
+ghost use lib.IntN.{ℤ, pos, negℤ, natAbs, _+ℤ_, _-ℤ_, _*ℤ_};
+ghost use lib.Signed.{quotZ, remZ};
+ghost use Rattle.theory_whole.specs.Kind.{signed};
+ghost use Rattle.theory_whole.specs.Division.{ediv, emod, isZero};
+ghost use Rattle.theory_whole.specs.Fit.{fits, wrap, refuse, divided, Answers};
+ghost use Rattle.theory_whole.specs.Order.{order};
+use theory_whole::Ordering;
+
+// The answer of an operation that may refuse: a refusal has the value 0.
+#[repr(C)]
+pub struct Checked {
+    pub ok: bool,
+    pub value: i32,
+}
+
+// ---- wrapping: the bits are those of the unsigned operation
+
+// The signed number with the same bits.
+pub fn wrapped(a: u32) -> i32
+    ensures { λ r. ⌜ r ≡ wrap (signed 32) (pos a) ⌝ }
+{
+    if a < 2147483648 {
+        a as i32
+    } else {
+        !((!a) as i32)
+    }
+}
+
+pub fn wrapping_add(a: i32, b: i32) -> i32
+    ensures { λ r. ⌜ r ≡ wrap (signed 32) (a +ℤ b) ⌝ }
+{
+    wrapped(unsigned32::wrapping_add(unsigned32::wrapped(a), unsigned32::wrapped(b)))
+}
+
+pub fn wrapping_add_unsigned(a: i32, b: u32) -> i32
+    ensures { λ r. ⌜ r ≡ wrap (signed 32) (a +ℤ pos b) ⌝ }
+{
+    wrapped(unsigned32::wrapping_add(unsigned32::wrapped(a), b))
+}
+
+pub fn wrapping_sub(a: i32, b: i32) -> i32
+    ensures { λ r. ⌜ r ≡ wrap (signed 32) (a -ℤ b) ⌝ }
+{
+    wrapped(unsigned32::wrapping_sub(unsigned32::wrapped(a), unsigned32::wrapped(b)))
+}
+
+fn wrapping_sub_unsigned(a: i32, b: u32) -> i32
+    ensures { λ r. ⌜ r ≡ wrap (signed 32) (a -ℤ pos b) ⌝ }
+{
+    wrapped(unsigned32::wrapping_sub(unsigned32::wrapped(a), b))
+}
+
+pub fn wrapping_mul(a: i32, b: i32) -> i32
+    ensures { λ r. ⌜ r ≡ wrap (signed 32) (a *ℤ b) ⌝ }
+{
+    wrapped(unsigned32::wrapping_mul(unsigned32::wrapped(a), unsigned32::wrapped(b)))
+}
+
+pub fn wrapping_shl(a: i32, distance: u32) -> i32
+    ensures { λ r. ⌜ r ≡ wrap (signed 32) (a *ℤ pos (2 ^ (distance % 32))) ⌝ }
+{
+    a << (distance % 32)
+}
+
+pub fn wrapping_shr(a: i32, distance: u32) -> i32
+    ensures { λ r. ⌜ r ≡ wrap (signed 32) (ediv a (pos (2 ^ (distance % 32)))) ⌝ }
+{
+    a >> (distance % 32)
+}
+
+// ---- checked sums and differences: what it wraps to tells whether it fits
+
+pub fn checked_add(a: i32, b: i32) -> Checked
+    ensures { λ r. ⌜ Answers (r .ok) (r .value) (refuse (signed 32) (a +ℤ b)) ⌝ }
+{
+    let sum = wrapping_add(a, b);
+    if (b < 0) != (sum < a) {
+        Checked {
+            ok: false,
+            value: 0,
+        }
+    } else {
+        Checked {
+            ok: true,
+            value: sum,
+        }
+    }
+}
+
+pub fn checked_add_unsigned(a: i32, b: u32) -> Checked
+    ensures { λ r. ⌜ Answers (r .ok) (r .value) (refuse (signed 32) (a +ℤ pos b)) ⌝ }
+{
+    let more = wrapping_add_unsigned(a, b);
+    if more < a {
+        Checked {
+            ok: false,
+            value: 0,
+        }
+    } else {
+        Checked {
+            ok: true,
+            value: more,
+        }
+    }
+}
+
+pub fn checked_sub(a: i32, b: i32) -> Checked
+    ensures { λ r. ⌜ Answers (r .ok) (r .value) (refuse (signed 32) (a -ℤ b)) ⌝ }
+{
+    let difference = wrapping_sub(a, b);
+    if (b < 0) != (a < difference) {
+        Checked {
+            ok: false,
+            value: 0,
+        }
+    } else {
+        Checked {
+            ok: true,
+            value: difference,
+        }
+    }
+}
+
+pub fn checked_sub_unsigned(a: i32, b: u32) -> Checked
+    ensures { λ r. ⌜ Answers (r .ok) (r .value) (refuse (signed 32) (a -ℤ pos b)) ⌝ }
+{
+    let less = wrapping_sub_unsigned(a, b);
+    if a < less {
+        Checked {
+            ok: false,
+            value: 0,
+        }
+    } else {
+        Checked {
+            ok: true,
+            value: less,
+        }
+    }
+}
+
+// ---- checked products: by sign and magnitude
+
+fn magnitude(a: i32) -> u32
+    ensures { λ r. ⌜ r ≡ natAbs a ⌝ }
+{
+    if a < 0 { ((!a) as u32) + 1 } else { a as u32 }
+}
+
+fn with_sign(negative: bool, magnitude: u32) -> Checked
+    ensures { λ r. ⌜ Answers (r .ok) (r .value) (refuse (signed 32) (cond negative (negℤ (pos magnitude)) (pos magnitude))) ⌝ }
+{
+    if negative {
+        if 2147483648 < magnitude {
+            Checked {
+                ok: false,
+                value: 0,
+            }
+        } else {
+            Checked {
+                ok: true,
+                value: wrapped(unsigned32::wrapping_sub(0, magnitude)),
+            }
+        }
+    } else if magnitude < 2147483648 {
+        Checked {
+            ok: true,
+            value: magnitude as i32,
+        }
+    } else {
+        Checked {
+            ok: false,
+            value: 0,
+        }
+    }
+}
+
+pub fn checked_mul(a: i32, b: i32) -> Checked
+    ensures { λ r. ⌜ Answers (r .ok) (r .value) (refuse (signed 32) (a *ℤ b)) ⌝ }
+{
+    let product = unsigned32::checked_mul(magnitude(a), magnitude(b));
+    if product.ok {
+        with_sign((a < 0) != (b < 0), product.value)
+    } else {
+        Checked {
+            ok: false,
+            value: 0,
+        }
+    }
+}
+
+// ---- checked divisions
+
+// Whether a / b has a value: the smallest number by -1 has none.
+fn divides(a: i32, b: i32) -> bool
+    ensures { λ r. ⌜ r ≡ not (isZero b) && fits (signed 32) (quotZ a b) ⌝ }
+{
+    if b == 0 {
+        false
+    } else if b == -1 {
+        a != i32::MIN
+    } else {
+        true
+    }
+}
+
+pub fn checked_div(a: i32, b: i32) -> Checked
+    ensures { λ r. ⌜ Answers (r .ok) (r .value) (divided (signed 32) b (quotZ a b) (quotZ a b)) ⌝ }
+{
+    if divides(a, b) {
+        Checked {
+            ok: true,
+            value: a / b,
+        }
+    } else {
+        Checked {
+            ok: false,
+            value: 0,
+        }
+    }
+}
+
+pub fn checked_rem(a: i32, b: i32) -> Checked
+    ensures { λ r. ⌜ Answers (r .ok) (r .value) (divided (signed 32) b (quotZ a b) (remZ a b)) ⌝ }
+{
+    if divides(a, b) {
+        Checked {
+            ok: true,
+            value: a % b,
+        }
+    } else {
+        Checked {
+            ok: false,
+            value: 0,
+        }
+    }
+}
+
+pub fn checked_div_euclid(a: i32, b: i32) -> Checked
+    ensures { λ r. ⌜ Answers (r .ok) (r .value) (divided (signed 32) b (ediv a b) (ediv a b)) ⌝ }
+{
+    if divides(a, b) {
+        let quotient = a / b;
+        if a % b < 0 {
+            if b < 0 {
+                Checked {
+                    ok: true,
+                    value: quotient + 1,
+                }
+            } else {
+                Checked {
+                    ok: true,
+                    value: quotient - 1,
+                }
+            }
+        } else {
+            Checked {
+                ok: true,
+                value: quotient,
+            }
+        }
+    } else {
+        Checked {
+            ok: false,
+            value: 0,
+        }
+    }
+}
+
+pub fn checked_rem_euclid(a: i32, b: i32) -> Checked
+    ensures { λ r. ⌜ Answers (r .ok) (r .value) (divided (signed 32) b (ediv a b) (emod a b)) ⌝ }
+{
+    if divides(a, b) {
+        let remainder = a % b;
+        if remainder < 0 {
+            if b < 0 {
+                Checked {
+                    ok: true,
+                    value: remainder - b,
+                }
+            } else {
+                Checked {
+                    ok: true,
+                    value: remainder + b,
+                }
+            }
+        } else {
+            Checked {
+                ok: true,
+                value: remainder,
+            }
+        }
+    } else {
+        Checked {
+            ok: false,
+            value: 0,
+        }
+    }
+}
+
+pub fn compare(a: i32, b: i32) -> Ordering
+    ensures { λ r. ⌜ r ≡ order a b ⌝ }
+{
+    if a < b {
+        Ordering::Less
+    } else if b < a {
+        Ordering::Greater
+    } else {
+        Ordering::Equal
+    }
+}

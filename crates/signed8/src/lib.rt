@@ -1,0 +1,310 @@
+// Signed integers of 8 bits: one operation on whole numbers, then wrap or refuse (theory_whole). No function asks anything of its caller.
+ghost use mathlib.Core.Path.{_≡_};
+ghost use mathlib.Core.Bool.{true, false, not, cond, _&&_};
+ghost use Prim.Native.Nat.{_%_, _^_};
+ghost use lib.IntN.{ℤ, pos, negℤ, natAbs, _+ℤ_, _-ℤ_, _*ℤ_};
+ghost use lib.Signed.{quotZ, remZ};
+ghost use Rattle.theory_whole.specs.Kind.{signed};
+ghost use Rattle.theory_whole.specs.Division.{ediv, emod, isZero};
+ghost use Rattle.theory_whole.specs.Fit.{fits, wrap, refuse, divided, Answers};
+ghost use Rattle.theory_whole.specs.Order.{order};
+use theory_whole::Ordering;
+
+// The answer of an operation that may refuse: a refusal has the value 0.
+#[repr(C)]
+pub struct Checked {
+    pub ok: bool,
+    pub value: i8,
+}
+
+// ---- wrapping: the bits are those of the unsigned operation
+
+// The signed number with the same bits.
+pub fn wrapped(a: u8) -> i8
+    ensures { λ r. ⌜ r ≡ wrap (signed 8) (pos a) ⌝ }
+{
+    if a < 128 { a as i8 } else { !((!a) as i8) }
+}
+
+pub fn wrapping_add(a: i8, b: i8) -> i8
+    ensures { λ r. ⌜ r ≡ wrap (signed 8) (a +ℤ b) ⌝ }
+{
+    wrapped(unsigned8::wrapping_add(unsigned8::wrapped(a), unsigned8::wrapped(b)))
+}
+
+pub fn wrapping_add_unsigned(a: i8, b: u8) -> i8
+    ensures { λ r. ⌜ r ≡ wrap (signed 8) (a +ℤ pos b) ⌝ }
+{
+    wrapped(unsigned8::wrapping_add(unsigned8::wrapped(a), b))
+}
+
+pub fn wrapping_sub(a: i8, b: i8) -> i8
+    ensures { λ r. ⌜ r ≡ wrap (signed 8) (a -ℤ b) ⌝ }
+{
+    wrapped(unsigned8::wrapping_sub(unsigned8::wrapped(a), unsigned8::wrapped(b)))
+}
+
+fn wrapping_sub_unsigned(a: i8, b: u8) -> i8
+    ensures { λ r. ⌜ r ≡ wrap (signed 8) (a -ℤ pos b) ⌝ }
+{
+    wrapped(unsigned8::wrapping_sub(unsigned8::wrapped(a), b))
+}
+
+pub fn wrapping_mul(a: i8, b: i8) -> i8
+    ensures { λ r. ⌜ r ≡ wrap (signed 8) (a *ℤ b) ⌝ }
+{
+    wrapped(unsigned8::wrapping_mul(unsigned8::wrapped(a), unsigned8::wrapped(b)))
+}
+
+pub fn wrapping_shl(a: i8, distance: u32) -> i8
+    ensures { λ r. ⌜ r ≡ wrap (signed 8) (a *ℤ pos (2 ^ (distance % 8))) ⌝ }
+{
+    a << (distance % 8)
+}
+
+pub fn wrapping_shr(a: i8, distance: u32) -> i8
+    ensures { λ r. ⌜ r ≡ wrap (signed 8) (ediv a (pos (2 ^ (distance % 8)))) ⌝ }
+{
+    a >> (distance % 8)
+}
+
+// ---- checked sums and differences: what it wraps to tells whether it fits
+
+pub fn checked_add(a: i8, b: i8) -> Checked
+    ensures { λ r. ⌜ Answers (r .ok) (r .value) (refuse (signed 8) (a +ℤ b)) ⌝ }
+{
+    let sum = wrapping_add(a, b);
+    if (b < 0) != (sum < a) {
+        Checked {
+            ok: false,
+            value: 0,
+        }
+    } else {
+        Checked {
+            ok: true,
+            value: sum,
+        }
+    }
+}
+
+pub fn checked_add_unsigned(a: i8, b: u8) -> Checked
+    ensures { λ r. ⌜ Answers (r .ok) (r .value) (refuse (signed 8) (a +ℤ pos b)) ⌝ }
+{
+    let more = wrapping_add_unsigned(a, b);
+    if more < a {
+        Checked {
+            ok: false,
+            value: 0,
+        }
+    } else {
+        Checked {
+            ok: true,
+            value: more,
+        }
+    }
+}
+
+pub fn checked_sub(a: i8, b: i8) -> Checked
+    ensures { λ r. ⌜ Answers (r .ok) (r .value) (refuse (signed 8) (a -ℤ b)) ⌝ }
+{
+    let difference = wrapping_sub(a, b);
+    if (b < 0) != (a < difference) {
+        Checked {
+            ok: false,
+            value: 0,
+        }
+    } else {
+        Checked {
+            ok: true,
+            value: difference,
+        }
+    }
+}
+
+pub fn checked_sub_unsigned(a: i8, b: u8) -> Checked
+    ensures { λ r. ⌜ Answers (r .ok) (r .value) (refuse (signed 8) (a -ℤ pos b)) ⌝ }
+{
+    let less = wrapping_sub_unsigned(a, b);
+    if a < less {
+        Checked {
+            ok: false,
+            value: 0,
+        }
+    } else {
+        Checked {
+            ok: true,
+            value: less,
+        }
+    }
+}
+
+// ---- checked products: by sign and magnitude
+
+fn magnitude(a: i8) -> u8
+    ensures { λ r. ⌜ r ≡ natAbs a ⌝ }
+{
+    if a < 0 { ((!a) as u8) + 1 } else { a as u8 }
+}
+
+fn with_sign(negative: bool, magnitude: u8) -> Checked
+    ensures { λ r. ⌜ Answers (r .ok) (r .value) (refuse (signed 8) (cond negative (negℤ (pos magnitude)) (pos magnitude))) ⌝ }
+{
+    if negative {
+        if 128 < magnitude {
+            Checked {
+                ok: false,
+                value: 0,
+            }
+        } else {
+            Checked {
+                ok: true,
+                value: wrapped(unsigned8::wrapping_sub(0, magnitude)),
+            }
+        }
+    } else if magnitude < 128 {
+        Checked {
+            ok: true,
+            value: magnitude as i8,
+        }
+    } else {
+        Checked {
+            ok: false,
+            value: 0,
+        }
+    }
+}
+
+pub fn checked_mul(a: i8, b: i8) -> Checked
+    ensures { λ r. ⌜ Answers (r .ok) (r .value) (refuse (signed 8) (a *ℤ b)) ⌝ }
+{
+    let product = unsigned8::checked_mul(magnitude(a), magnitude(b));
+    if product.ok {
+        with_sign((a < 0) != (b < 0), product.value)
+    } else {
+        Checked {
+            ok: false,
+            value: 0,
+        }
+    }
+}
+
+// ---- checked divisions
+
+// Whether a / b has a value: the smallest number by -1 has none.
+fn divides(a: i8, b: i8) -> bool
+    ensures { λ r. ⌜ r ≡ not (isZero b) && fits (signed 8) (quotZ a b) ⌝ }
+{
+    if b == 0 {
+        false
+    } else if b == -1 {
+        a != i8::MIN
+    } else {
+        true
+    }
+}
+
+pub fn checked_div(a: i8, b: i8) -> Checked
+    ensures { λ r. ⌜ Answers (r .ok) (r .value) (divided (signed 8) b (quotZ a b) (quotZ a b)) ⌝ }
+{
+    if divides(a, b) {
+        Checked {
+            ok: true,
+            value: a / b,
+        }
+    } else {
+        Checked {
+            ok: false,
+            value: 0,
+        }
+    }
+}
+
+pub fn checked_rem(a: i8, b: i8) -> Checked
+    ensures { λ r. ⌜ Answers (r .ok) (r .value) (divided (signed 8) b (quotZ a b) (remZ a b)) ⌝ }
+{
+    if divides(a, b) {
+        Checked {
+            ok: true,
+            value: a % b,
+        }
+    } else {
+        Checked {
+            ok: false,
+            value: 0,
+        }
+    }
+}
+
+pub fn checked_div_euclid(a: i8, b: i8) -> Checked
+    ensures { λ r. ⌜ Answers (r .ok) (r .value) (divided (signed 8) b (ediv a b) (ediv a b)) ⌝ }
+{
+    if divides(a, b) {
+        let quotient = a / b;
+        if a % b < 0 {
+            if b < 0 {
+                Checked {
+                    ok: true,
+                    value: quotient + 1,
+                }
+            } else {
+                Checked {
+                    ok: true,
+                    value: quotient - 1,
+                }
+            }
+        } else {
+            Checked {
+                ok: true,
+                value: quotient,
+            }
+        }
+    } else {
+        Checked {
+            ok: false,
+            value: 0,
+        }
+    }
+}
+
+pub fn checked_rem_euclid(a: i8, b: i8) -> Checked
+    ensures { λ r. ⌜ Answers (r .ok) (r .value) (divided (signed 8) b (ediv a b) (emod a b)) ⌝ }
+{
+    if divides(a, b) {
+        let remainder = a % b;
+        if remainder < 0 {
+            if b < 0 {
+                Checked {
+                    ok: true,
+                    value: remainder - b,
+                }
+            } else {
+                Checked {
+                    ok: true,
+                    value: remainder + b,
+                }
+            }
+        } else {
+            Checked {
+                ok: true,
+                value: remainder,
+            }
+        }
+    } else {
+        Checked {
+            ok: false,
+            value: 0,
+        }
+    }
+}
+
+pub fn compare(a: i8, b: i8) -> Ordering
+    ensures { λ r. ⌜ r ≡ order a b ⌝ }
+{
+    if a < b {
+        Ordering::Less
+    } else if b < a {
+        Ordering::Greater
+    } else {
+        Ordering::Equal
+    }
+}
