@@ -1,0 +1,29 @@
+use native.Mathlib.Omega.{arith}
+use Rattle.theory_digits.proofs.Counting.{TrailingCount, trailing-start, trailing-more, trailing-next, trailing-end}
+use Rattle.zeros.proofs.trailing_zeros_u64.Statement.{statement}
+use Rattle.zeros.proofs.trailing_zeros_u64.Tie as tie
+
+abbrev Inv-loop : tie.InvT-loop
+Inv-loop x n₀ left₀ n left = TrailingCount 64 x n left
+
+abbrev μ-loop : tie.MeasureT-loop
+μ-loop x n₀ left₀ n left = n
+
+loop-holds : tie.Need-loop-holds Inv-loop μ-loop
+loop-holds c = trailing-start 64 (c .fits .x .fits)
+
+sub-trailing : tie.Need-sub-trailing Inv-loop μ-loop
+sub-trailing c = omega (arith, trailing-more 64 (c .before .before .fits .x .fits) (c .before .loop .inv) (c .loop-test .taken))
+
+loop-less : tie.Need-loop-less Inv-loop μ-loop
+loop-less c = omega (arith, trailing-more 64 (c .before .before .fits .x .fits) (c .before .loop .inv) (c .loop-test .taken))
+
+loop-again : tie.Need-loop-again Inv-loop μ-loop
+loop-again c = trailing-next 64 (c .before .before .fits .x .fits) (c .before .loop .inv) (c .loop-test .taken)
+
+returns : tie.Need-returns Inv-loop μ-loop
+returns c = trailing-end 64 (c .before .before .fits .x .fits) (c .before .loop .inv) (c .loop-test .left)
+
+pub trailing-zeros-u64-spec : {M : Type 1} → statement M
+trailing-zeros-u64-spec =
+    tie.close (tie.spec Inv-loop μ-loop loop-holds sub-trailing loop-less loop-again returns)
