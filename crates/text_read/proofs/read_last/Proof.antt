@@ -1,0 +1,17 @@
+use borrow.Author.Needs.{needs}
+use Rattle.theory_text.proofs.Answers.{read-none, within-read}
+use native.Mathlib.Omega.{arith}
+use Rattle.text_read.proofs.read_last.Statement.{statement}
+use Rattle.text_read.proofs.read_last.Tie as tie
+
+returns : tie.Need-returns
+returns c = read-none _ (λ x p. omega (arith, p .0 .ordered))
+
+returns-2 : tie.Need-returns-2
+returns-2 c = read-none _ (λ x p. omega (arith, p .0 .ends))
+
+returns-3 : tie.Need-returns-3
+returns-3 c = within-read _ _ (c .end .result .ok) (record { ordered = omega arith; ends = omega arith }) (c .end .ensures)
+
+pub read-last-spec : {M : Type 1} → statement M
+read-last-spec = tie.close (tie.spec returns returns-2 (λ c. search needs) (λ c. search needs) (λ c κs. search needs) returns-3)
