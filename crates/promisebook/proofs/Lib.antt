@@ -1,0 +1,11 @@
+pub mod Bounds
+pub mod Unsigned
+pub mod Signed
+pub mod Compare
+pub mod Pinned
+pub mod Zeros
+pub mod Bytes
+pub mod Slices
+pub mod Text
+pub mod TextWhole
+pub mod TextKept

@@ -1,0 +1,7 @@
+pub mod Unsigned
+pub mod Signed
+pub mod Compare
+pub mod Zeros
+pub mod Bytes
+pub mod Slices
+pub mod Text
