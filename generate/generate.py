@@ -10,12 +10,13 @@ that variant."""
 import os
 import sys
 
+import decimals
 import digits
 import integers
 import programs
 from templates import CRATES, read
 
-FAMILIES = [integers, digits, programs]
+FAMILIES = [integers, digits, decimals, programs]
 
 
 def stored(made):

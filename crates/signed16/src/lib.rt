@@ -140,13 +140,13 @@ pub fn checked_sub_unsigned(a: i16, b: u16) -> Checked
 
 // ---- checked products: by sign and magnitude
 
-fn magnitude(a: i16) -> u16
+pub fn magnitude(a: i16) -> u16
     ensures { λ r. ⌜ r ≡ natAbs a ⌝ }
 {
     if a < 0 { ((!a) as u16) + 1 } else { a as u16 }
 }
 
-fn with_sign(negative: bool, magnitude: u16) -> Checked
+pub fn with_sign(negative: bool, magnitude: u16) -> Checked
     ensures { λ r. ⌜ Answers (r .ok) (r .value) (refuse (signed 16) (cond negative (negℤ (pos magnitude)) (pos magnitude))) ⌝ }
 {
     if negative {

@@ -144,13 +144,13 @@ pub fn checked_sub_unsigned(a: i32, b: u32) -> Checked
 
 // ---- checked products: by sign and magnitude
 
-fn magnitude(a: i32) -> u32
+pub fn magnitude(a: i32) -> u32
     ensures { λ r. ⌜ r ≡ natAbs a ⌝ }
 {
     if a < 0 { ((!a) as u32) + 1 } else { a as u32 }
 }
 
-fn with_sign(negative: bool, magnitude: u32) -> Checked
+pub fn with_sign(negative: bool, magnitude: u32) -> Checked
     ensures { λ r. ⌜ Answers (r .ok) (r .value) (refuse (signed 32) (cond negative (negℤ (pos magnitude)) (pos magnitude))) ⌝ }
 {
     if negative {

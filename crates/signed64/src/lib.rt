@@ -144,13 +144,13 @@ pub fn checked_sub_unsigned(a: i64, b: u64) -> Checked
 
 // ---- checked products: by sign and magnitude
 
-fn magnitude(a: i64) -> u64
+pub fn magnitude(a: i64) -> u64
     ensures { λ r. ⌜ r ≡ natAbs a ⌝ }
 {
     if a < 0 { ((!a) as u64) + 1 } else { a as u64 }
 }
 
-fn with_sign(negative: bool, magnitude: u64) -> Checked
+pub fn with_sign(negative: bool, magnitude: u64) -> Checked
     ensures { λ r. ⌜ Answers (r .ok) (r .value) (refuse (signed 64) (cond negative (negℤ (pos magnitude)) (pos magnitude))) ⌝ }
 {
     if negative {

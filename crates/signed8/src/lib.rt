@@ -140,13 +140,13 @@ pub fn checked_sub_unsigned(a: i8, b: u8) -> Checked
 
 // ---- checked products: by sign and magnitude
 
-fn magnitude(a: i8) -> u8
+pub fn magnitude(a: i8) -> u8
     ensures { λ r. ⌜ r ≡ natAbs a ⌝ }
 {
     if a < 0 { ((!a) as u8) + 1 } else { a as u8 }
 }
 
-fn with_sign(negative: bool, magnitude: u8) -> Checked
+pub fn with_sign(negative: bool, magnitude: u8) -> Checked
     ensures { λ r. ⌜ Answers (r .ok) (r .value) (refuse (signed 8) (cond negative (negℤ (pos magnitude)) (pos magnitude))) ⌝ }
 {
     if negative {

@@ -144,7 +144,7 @@ pub fn checked_sub_unsigned(a: isize, b: usize) -> Checked
 
 // ---- checked products: by sign and magnitude
 
-fn magnitude(a: isize) -> usize
+pub fn magnitude(a: isize) -> usize
     ensures { λ r. ⌜ r ≡ natAbs a ⌝ }
 {
     if a < 0 {
@@ -154,7 +154,7 @@ fn magnitude(a: isize) -> usize
     }
 }
 
-fn with_sign(negative: bool, magnitude: usize) -> Checked
+pub fn with_sign(negative: bool, magnitude: usize) -> Checked
     ensures { λ r. ⌜ Answers (r .ok) (r .value) (refuse (signed 64) (cond negative (negℤ (pos magnitude)) (pos magnitude))) ⌝ }
 {
     if negative {
