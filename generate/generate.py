@@ -10,13 +10,14 @@ that variant."""
 import os
 import sys
 
+import beyond
 import decimals
 import digits
 import integers
 import programs
 from templates import CRATES, read
 
-FAMILIES = [integers, digits, decimals, programs]
+FAMILIES = [integers, digits, decimals, beyond, programs]
 
 
 def stored(made):

@@ -1,0 +1,217 @@
+// Beyond vstd: operations that it promises nothing of, exported for C and Rust under the contracts of the operations themselves, each kept by a call.
+ghost use mathlib.Core.Path.{_≡_};
+ghost use lib.IntN.{pos};
+ghost use Rattle.theory_whole.specs.Kind.{unsigned, signed};
+ghost use Rattle.theory_whole.specs.Fit.{Answers};
+ghost use Rattle.theory_digits.specs.Digits.{digitsHigh};
+ghost use Rattle.theory_digits.specs.Answers.{numberHigh, Writes};
+ghost use Rattle.theory_text.specs.Reading.{validTo};
+ghost use Rattle.theory_decimal.specs.Written as text;
+ghost use Rattle.theory_decimal.specs.Read as said;
+
+// ---- text
+
+#[no_mangle]
+pub extern "C" fn pb_text_valid_up_to(s: &[u8]) -> usize
+    ensures { λ r. ⌜ r ≡ validTo (now (s .entry)) ⌝ }
+{
+    text_valid::valid_up_to(s)
+}
+
+// ---- bytes of a number, highest first, 16 bits
+
+#[no_mangle]
+pub extern "C" fn pb_u16_from_be_bytes(s: &[u8]) -> number_bytes16::Checked
+    ensures { λ r. ⌜ Answers (r .ok) (pos (r .value)) (numberHigh 256 2 (now (s .entry))) ⌝ }
+{
+    number_bytes16::from_be_bytes(s)
+}
+
+#[no_mangle]
+pub extern "C" fn pb_u16_to_be_bytes(x: u16, s: &mut [u8], at: usize) -> bool
+    ensures { λ r. ⌜ Writes r (now (s .entry)) at (digitsHigh 256 2 x) (now (s .exit)) ⌝ }
+{
+    number_bytes16::write_be_bytes(s, at, x)
+}
+
+// ---- bytes of a number, highest first, 32 bits
+
+#[no_mangle]
+pub extern "C" fn pb_u32_from_be_bytes(s: &[u8]) -> number_bytes32::Checked
+    ensures { λ r. ⌜ Answers (r .ok) (pos (r .value)) (numberHigh 256 4 (now (s .entry))) ⌝ }
+{
+    number_bytes32::from_be_bytes(s)
+}
+
+#[no_mangle]
+pub extern "C" fn pb_u32_to_be_bytes(x: u32, s: &mut [u8], at: usize) -> bool
+    ensures { λ r. ⌜ Writes r (now (s .entry)) at (digitsHigh 256 4 x) (now (s .exit)) ⌝ }
+{
+    number_bytes32::write_be_bytes(s, at, x)
+}
+
+// ---- bytes of a number, highest first, 64 bits
+
+#[no_mangle]
+pub extern "C" fn pb_u64_from_be_bytes(s: &[u8]) -> number_bytes64::Checked
+    ensures { λ r. ⌜ Answers (r .ok) (pos (r .value)) (numberHigh 256 8 (now (s .entry))) ⌝ }
+{
+    number_bytes64::from_be_bytes(s)
+}
+
+#[no_mangle]
+pub extern "C" fn pb_u64_to_be_bytes(x: u64, s: &mut [u8], at: usize) -> bool
+    ensures { λ r. ⌜ Writes r (now (s .entry)) at (digitsHigh 256 8 x) (now (s .exit)) ⌝ }
+{
+    number_bytes64::write_be_bytes(s, at, x)
+}
+
+// ---- decimal text, 8 bits
+
+#[no_mangle]
+pub extern "C" fn pb_u8_read_decimal(s: &[u8], from: usize, to: usize) -> unsigned8::Checked
+    ensures { λ r. ⌜ Answers (r .ok) (pos (r .value)) (said.naturalIn (unsigned 8) from to (now (s .entry))) ⌝ }
+{
+    decimal::read_u8(s, from, to)
+}
+
+#[no_mangle]
+pub extern "C" fn pb_u8_write_decimal(x: u8, s: &mut [u8], at: usize) -> decimal::Length
+    ensures { λ r. ⌜ text.Shows (r .ok) (r .value) (now (s .entry)) at (text.natural x) (now (s .exit)) ⌝ }
+{
+    decimal::write_u8(s, at, x)
+}
+
+#[no_mangle]
+pub extern "C" fn pb_i8_read_decimal(s: &[u8], from: usize, to: usize) -> signed8::Checked
+    ensures { λ r. ⌜ Answers (r .ok) (r .value) (said.wholeIn (signed 8) from to (now (s .entry))) ⌝ }
+{
+    decimal::read_i8(s, from, to)
+}
+
+#[no_mangle]
+pub extern "C" fn pb_i8_write_decimal(x: i8, s: &mut [u8], at: usize) -> decimal::Length
+    ensures { λ r. ⌜ text.Shows (r .ok) (r .value) (now (s .entry)) at (text.whole x) (now (s .exit)) ⌝ }
+{
+    decimal::write_i8(s, at, x)
+}
+
+// ---- decimal text, 16 bits
+
+#[no_mangle]
+pub extern "C" fn pb_u16_read_decimal(s: &[u8], from: usize, to: usize) -> unsigned16::Checked
+    ensures { λ r. ⌜ Answers (r .ok) (pos (r .value)) (said.naturalIn (unsigned 16) from to (now (s .entry))) ⌝ }
+{
+    decimal::read_u16(s, from, to)
+}
+
+#[no_mangle]
+pub extern "C" fn pb_u16_write_decimal(x: u16, s: &mut [u8], at: usize) -> decimal::Length
+    ensures { λ r. ⌜ text.Shows (r .ok) (r .value) (now (s .entry)) at (text.natural x) (now (s .exit)) ⌝ }
+{
+    decimal::write_u16(s, at, x)
+}
+
+#[no_mangle]
+pub extern "C" fn pb_i16_read_decimal(s: &[u8], from: usize, to: usize) -> signed16::Checked
+    ensures { λ r. ⌜ Answers (r .ok) (r .value) (said.wholeIn (signed 16) from to (now (s .entry))) ⌝ }
+{
+    decimal::read_i16(s, from, to)
+}
+
+#[no_mangle]
+pub extern "C" fn pb_i16_write_decimal(x: i16, s: &mut [u8], at: usize) -> decimal::Length
+    ensures { λ r. ⌜ text.Shows (r .ok) (r .value) (now (s .entry)) at (text.whole x) (now (s .exit)) ⌝ }
+{
+    decimal::write_i16(s, at, x)
+}
+
+// ---- decimal text, 32 bits
+
+#[no_mangle]
+pub extern "C" fn pb_u32_read_decimal(s: &[u8], from: usize, to: usize) -> unsigned32::Checked
+    ensures { λ r. ⌜ Answers (r .ok) (pos (r .value)) (said.naturalIn (unsigned 32) from to (now (s .entry))) ⌝ }
+{
+    decimal::read_u32(s, from, to)
+}
+
+#[no_mangle]
+pub extern "C" fn pb_u32_write_decimal(x: u32, s: &mut [u8], at: usize) -> decimal::Length
+    ensures { λ r. ⌜ text.Shows (r .ok) (r .value) (now (s .entry)) at (text.natural x) (now (s .exit)) ⌝ }
+{
+    decimal::write_u32(s, at, x)
+}
+
+#[no_mangle]
+pub extern "C" fn pb_i32_read_decimal(s: &[u8], from: usize, to: usize) -> signed32::Checked
+    ensures { λ r. ⌜ Answers (r .ok) (r .value) (said.wholeIn (signed 32) from to (now (s .entry))) ⌝ }
+{
+    decimal::read_i32(s, from, to)
+}
+
+#[no_mangle]
+pub extern "C" fn pb_i32_write_decimal(x: i32, s: &mut [u8], at: usize) -> decimal::Length
+    ensures { λ r. ⌜ text.Shows (r .ok) (r .value) (now (s .entry)) at (text.whole x) (now (s .exit)) ⌝ }
+{
+    decimal::write_i32(s, at, x)
+}
+
+// ---- decimal text, 64 bits
+
+#[no_mangle]
+pub extern "C" fn pb_u64_read_decimal(s: &[u8], from: usize, to: usize) -> unsigned64::Checked
+    ensures { λ r. ⌜ Answers (r .ok) (pos (r .value)) (said.naturalIn (unsigned 64) from to (now (s .entry))) ⌝ }
+{
+    decimal::read_u64(s, from, to)
+}
+
+#[no_mangle]
+pub extern "C" fn pb_u64_write_decimal(x: u64, s: &mut [u8], at: usize) -> decimal::Length
+    ensures { λ r. ⌜ text.Shows (r .ok) (r .value) (now (s .entry)) at (text.natural x) (now (s .exit)) ⌝ }
+{
+    decimal::write_u64(s, at, x)
+}
+
+#[no_mangle]
+pub extern "C" fn pb_i64_read_decimal(s: &[u8], from: usize, to: usize) -> signed64::Checked
+    ensures { λ r. ⌜ Answers (r .ok) (r .value) (said.wholeIn (signed 64) from to (now (s .entry))) ⌝ }
+{
+    decimal::read_i64(s, from, to)
+}
+
+#[no_mangle]
+pub extern "C" fn pb_i64_write_decimal(x: i64, s: &mut [u8], at: usize) -> decimal::Length
+    ensures { λ r. ⌜ text.Shows (r .ok) (r .value) (now (s .entry)) at (text.whole x) (now (s .exit)) ⌝ }
+{
+    decimal::write_i64(s, at, x)
+}
+
+// ---- decimal text, the size type
+
+#[no_mangle]
+pub extern "C" fn pb_usize_read_decimal(s: &[u8], from: usize, to: usize) -> unsigned_size::Checked
+    ensures { λ r. ⌜ Answers (r .ok) (pos (r .value)) (said.naturalIn (unsigned 64) from to (now (s .entry))) ⌝ }
+{
+    decimal::read_usize(s, from, to)
+}
+
+#[no_mangle]
+pub extern "C" fn pb_usize_write_decimal(x: usize, s: &mut [u8], at: usize) -> decimal::Length
+    ensures { λ r. ⌜ text.Shows (r .ok) (r .value) (now (s .entry)) at (text.natural x) (now (s .exit)) ⌝ }
+{
+    decimal::write_usize(s, at, x)
+}
+
+#[no_mangle]
+pub extern "C" fn pb_isize_read_decimal(s: &[u8], from: usize, to: usize) -> signed_size::Checked
+    ensures { λ r. ⌜ Answers (r .ok) (r .value) (said.wholeIn (signed 64) from to (now (s .entry))) ⌝ }
+{
+    decimal::read_isize(s, from, to)
+}
+
+#[no_mangle]
+pub extern "C" fn pb_isize_write_decimal(x: isize, s: &mut [u8], at: usize) -> decimal::Length
+    ensures { λ r. ⌜ text.Shows (r .ok) (r .value) (now (s .entry)) at (text.whole x) (now (s .exit)) ⌝ }
+{
+    decimal::write_isize(s, at, x)
+}
