@@ -114,21 +114,18 @@ def body(export):
     return "    let answer = %s;\n    answer.ok.then_some(%s)\n" % (call, value)
 
 
-def literal_bytes(value, as_text):
-    """Bytes in a test: text as text, other bytes in hexadecimal where they are of text."""
-    if as_text:
-        try:
-            if value and value.decode().isprintable():
-                return '"%s".as_bytes()' % value.decode()
-        except UnicodeDecodeError:
-            pass
-    return "&[%s]" % ", ".join("0x%02x" % byte if as_text else str(byte) for byte in value)
+def listed(value, group):
+    return "[%s]" % ", ".join("0x%02x" % byte if group == "text" else str(byte) for byte in value)
 
 
 def literal(value, written, group):
-    if SLICE.fullmatch(written):
-        return literal_bytes(value, group == "text")
-    return hex(value) if group == "text" and written == "u32" else str(value)
+    """A value in a test; in the family of text, bytes that are text stand as text, and others and scalar values in hexadecimal."""
+    if not SLICE.fullmatch(written):
+        return hex(value) if group == "text" and written == "u32" else str(value)
+    text = value.decode("utf-8", "replace")
+    if group == "text" and text.isprintable() and text and text.encode() == value:
+        return '"%s".as_bytes()' % text
+    return "&" + listed(value, group)
 
 
 def answer_literal(export, answer):
@@ -172,11 +169,11 @@ def example(export):
         for (name, written), value in zip(export.parameters, arguments):
             text = literal(value, written, export.group)
             if written.startswith("&mut "):
-                lines.append("let mut %s = %s;" % (name, literal_bytes(value, False)[1:]))
+                lines.append("let mut %s = %s;" % (name, listed(value, export.group)))
                 text = "&mut " + name
             values.append(name if name in named else text)
         lines.append(assertion("%s::%s(%s)" % (module(export.group), export.operation, ", ".join(values)), answer, export))
-        lines += ["assert_eq!(%s, %s);" % (name, literal_bytes(bytes(value), export.group == "text")[1:]) for name, value in after.items()]
+        lines += ["assert_eq!(%s, %s);" % (name, listed(value, export.group)) for name, value in after.items()]
     return lines
 
 

@@ -51,13 +51,13 @@ pub fn is_white_space(c: u32) -> bool {
 ///
 /// ```
 /// use promisebook::text;
-/// let mut out = [0, 0, 0, 0];
+/// let mut out = [0x00, 0x00, 0x00, 0x00];
 /// assert_eq!(text::write(&mut out, 1, 0x20ac), Some(3));
 /// assert_eq!(out, [0x00, 0xe2, 0x82, 0xac]);
-/// let mut out = [0, 0, 0, 0];
+/// let mut out = [0x00, 0x00, 0x00, 0x00];
 /// assert_eq!(text::write(&mut out, 2, 0x20ac), None);
 /// assert_eq!(out, [0x00, 0x00, 0x00, 0x00]);
-/// let mut out = [0, 0, 0, 0];
+/// let mut out = [0x00, 0x00, 0x00, 0x00];
 /// assert_eq!(text::write(&mut out, 0, 0xdfff), None);
 /// assert_eq!(out, [0x00, 0x00, 0x00, 0x00]);
 /// ```
