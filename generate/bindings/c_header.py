@@ -10,8 +10,8 @@ WIDTH = 120
 
 
 def c_type(name):
-    if name in (None, "bool"):
-        return name or "void"
+    if name == "bool":
+        return name
     sign, width = INTEGER.fullmatch(name).groups()
     if width == "size":
         return {"u": "size_t", "i": "ptrdiff_t"}[sign]
@@ -25,7 +25,7 @@ def struct_name(group, struct):
 
 
 def answer_type(export):
-    return c_type(export.answer) if isinstance(export.answer, (str, type(None))) else struct_name(export.group, export.answer)
+    return c_type(export.answer) if isinstance(export.answer, str) else struct_name(export.group, export.answer)
 
 
 def comment(text):
@@ -48,7 +48,7 @@ def declaration(export):
 def structs(found):
     made = {}
     for export in found:
-        if isinstance(export.answer, (str, type(None))):
+        if isinstance(export.answer, str):
             continue
         name = struct_name(export.group, export.answer)
         fields = " ".join("%s %s;" % (c_type(kind), field) for field, kind in export.answer.fields)

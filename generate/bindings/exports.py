@@ -9,7 +9,7 @@ from templates import CRATES, read
 FACE = "promisebook"
 INTEGER = re.compile(r"([ui])(8|16|32|64|128|size)")
 SLICE = re.compile(r"&(mut )?\[(\w+)\]")
-EXPORT = re.compile(r"^#\[no_mangle\]\npub extern \"C\" fn pb_(\w+)\(([^)]*)\)(?: -> ([\w:]+))?\n", re.M)
+EXPORT = re.compile(r"^#\[no_mangle\]\npub extern \"C\" fn pb_(\w+)\(([^)]*)\) -> ([\w:]+)\n", re.M)
 STRUCT = re.compile(r"^#\[repr\(C\)\]\npub struct (\w+) \{\n(.*?)^\}", re.M | re.S)
 FIELD = re.compile(r"^ *pub (\w+): (\w+),$", re.M)
 
@@ -17,16 +17,12 @@ FIELD = re.compile(r"^ *pub (\w+): (\w+),$", re.M)
 @dataclass(frozen=True)
 class Struct:
     name: str
-    fields: tuple  # pairs of a name and a type; where it may refuse, the first is ok
-
-    @property
-    def refuses(self):
-        return self.fields[0] == ("ok", "bool")
+    fields: tuple  # pairs of a name and a type, of which the first is ok
 
     @property
     def value(self):
-        """The type of the answer where ok is followed by one value alone, else None."""
-        return self.fields[1][1] if self.refuses and [name for name, _ in self.fields[1:]] == ["value"] else None
+        """The type of the value where it follows ok alone, else None."""
+        return self.fields[1][1] if [name for name, _ in self.fields] == ["ok", "value"] else None
 
 
 @dataclass(frozen=True)
@@ -34,7 +30,7 @@ class Export:
     group: str  # the integer type that it is of, or the family: u8, bytes, text
     operation: str
     parameters: tuple  # pairs of a name and a type
-    answer: object  # a type's name, a Struct, or None
+    answer: object  # a type's name, or a Struct
 
     @property
     def symbol(self):
@@ -67,12 +63,14 @@ def structs(crate, made):
 
 def answered(written, where, made):
     """A written answer: a type of the language as it stands, or the struct that a path names."""
-    if not written or written == "bool" or INTEGER.fullmatch(written):
-        return written or None
+    if written == "bool" or INTEGER.fullmatch(written):
+        return written
     crate, _, name = written.rpartition("::")
     known = structs(crate or FACE, made)
     if name not in known:
         raise SystemExit("%s: %s is no #[repr(C)] struct of %s" % (where, name, crate or FACE))
+    if known[name].fields[0] != ("ok", "bool"):
+        raise SystemExit("%s: the struct %s does not begin with ok, and the bindings have no form for it" % (where, name))
     return known[name]
 
 

@@ -58,7 +58,8 @@ PROMISES = {
     "first": promise("The first byte of the part. NO_PART, and where the part is empty.", of_part(lambda p: p[0] if p else None), (SAMPLE, 2, 5), (SAMPLE, 2, 2)),
     "last": promise("The last byte of the part. NO_PART, and where the part is empty.", of_part(lambda p: p[-1] if p else None), (SAMPLE, 2, 5), (SAMPLE, 2, 2)),
     "sub_range": promise(
-        "The bytes from `a` up to and without `e` of the part, counted from `from`, by their places in `s`. NO_PART, and where `a` is past `e` or `e` past the part's end.",
+        "The bytes from `a` up to and without `e` of the part, counted from `from`, by their places in `s`. "
+        "NO_PART, and where `a` is past `e` or `e` past the part's end.",
         of_places(lambda start, end, a, e: (start + a, start + e) if a <= e <= end - start else None), (SAMPLE, 1, 6, 2, 4), (SAMPLE, 1, 6, 2, 6),
     ),
     "split_at": promise(
