@@ -166,7 +166,7 @@ pb_answer_u8 pb_u8_checked_rem_euclid(uint8_t x, uint8_t y);
 /* The sum `x + y`, or 255 where it is larger. */
 uint8_t pb_u8_saturating_add(uint8_t x, uint8_t y);
 
-/* The difference `x - y`, or 0 where it is less. */
+/* The difference `x - y`, or 0 where it is below that. */
 uint8_t pb_u8_saturating_sub(uint8_t x, uint8_t y);
 
 /* The product `x * y`, or 255 where it is larger. */
@@ -264,7 +264,7 @@ pb_answer_u16 pb_u16_checked_rem_euclid(uint16_t x, uint16_t y);
 /* The sum `x + y`, or 65535 where it is larger. */
 uint16_t pb_u16_saturating_add(uint16_t x, uint16_t y);
 
-/* The difference `x - y`, or 0 where it is less. */
+/* The difference `x - y`, or 0 where it is below that. */
 uint16_t pb_u16_saturating_sub(uint16_t x, uint16_t y);
 
 /* The product `x * y`, or 65535 where it is larger. */
@@ -369,7 +369,7 @@ pb_answer_u32 pb_u32_checked_rem_euclid(uint32_t x, uint32_t y);
 /* The sum `x + y`, or 4294967295 where it is larger. */
 uint32_t pb_u32_saturating_add(uint32_t x, uint32_t y);
 
-/* The difference `x - y`, or 0 where it is less. */
+/* The difference `x - y`, or 0 where it is below that. */
 uint32_t pb_u32_saturating_sub(uint32_t x, uint32_t y);
 
 /* The product `x * y`, or 4294967295 where it is larger. */
@@ -475,7 +475,7 @@ pb_answer_u64 pb_u64_checked_rem_euclid(uint64_t x, uint64_t y);
 /* The sum `x + y`, or 18446744073709551615 where it is larger. */
 uint64_t pb_u64_saturating_add(uint64_t x, uint64_t y);
 
-/* The difference `x - y`, or 0 where it is less. */
+/* The difference `x - y`, or 0 where it is below that. */
 uint64_t pb_u64_saturating_sub(uint64_t x, uint64_t y);
 
 /* The product `x * y`, or 18446744073709551615 where it is larger. */
@@ -581,7 +581,7 @@ pb_answer_usize pb_usize_checked_rem_euclid(size_t x, size_t y);
 /* The sum `x + y`, or 18446744073709551615 where it is larger. */
 size_t pb_usize_saturating_add(size_t x, size_t y);
 
-/* The difference `x - y`, or 0 where it is less. */
+/* The difference `x - y`, or 0 where it is below that. */
 size_t pb_usize_saturating_sub(size_t x, size_t y);
 
 /* The product `x * y`, or 18446744073709551615 where it is larger. */

@@ -139,7 +139,7 @@ PROMISES = dict([
     worked("checked_rem_euclid", "The remainder of `x` by `y` that is not negative. {divided}.", divisions),
     worked("checked_next_multiple_of", "The smallest multiple of `y` that is at least `x`. Refused where `y` is 0 or the multiple is above {greatest}.", multiples),
     worked("saturating_add", "The sum `x + y`, or {greatest} where it is larger.", sums),
-    worked("saturating_sub", "The difference `x - y`, or {least} where it is less.", differences),
+    worked("saturating_sub", "The difference `x - y`, or {least} where it is below that.", differences),
     worked("saturating_mul", "The product `x * y`, or {greatest} where it is larger.", products),
     worked("is_multiple_of", "Whether `x` is a multiple of `y`; of 0 only 0 is.", lambda k: [(252, 7), (250, 7), (0, 0), (7, 0)]),
 ])

@@ -229,7 +229,7 @@ pub fn saturating_add(x: u16, y: u16) -> u16 {
     exported::pb_u16_saturating_add(x, y)
 }
 
-/// The difference `x - y`, or 0 where it is less.
+/// The difference `x - y`, or 0 where it is below that.
 ///
 /// ```
 /// use promisebook::u16s;

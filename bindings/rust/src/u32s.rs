@@ -229,7 +229,7 @@ pub fn saturating_add(x: u32, y: u32) -> u32 {
     exported::pb_u32_saturating_add(x, y)
 }
 
-/// The difference `x - y`, or 0 where it is less.
+/// The difference `x - y`, or 0 where it is below that.
 ///
 /// ```
 /// use promisebook::u32s;

@@ -230,7 +230,7 @@ pub fn saturating_add(x: u64, y: u64) -> u64 {
     exported::pb_u64_saturating_add(x, y)
 }
 
-/// The difference `x - y`, or 0 where it is less.
+/// The difference `x - y`, or 0 where it is below that.
 ///
 /// ```
 /// use promisebook::u64s;

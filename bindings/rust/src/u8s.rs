@@ -229,7 +229,7 @@ pub fn saturating_add(x: u8, y: u8) -> u8 {
     exported::pb_u8_saturating_add(x, y)
 }
 
-/// The difference `x - y`, or 0 where it is less.
+/// The difference `x - y`, or 0 where it is below that.
 ///
 /// ```
 /// use promisebook::u8s;

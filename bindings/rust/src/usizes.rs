@@ -230,7 +230,7 @@ pub fn saturating_add(x: usize, y: usize) -> usize {
     exported::pb_usize_saturating_add(x, y)
 }
 
-/// The difference `x - y`, or 0 where it is less.
+/// The difference `x - y`, or 0 where it is below that.
 ///
 /// ```
 /// use promisebook::usizes;
