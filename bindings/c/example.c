@@ -60,6 +60,7 @@ int main(void)
     expect("the damaged record is read", read_record(record, 5).ok, false);
     expect("the record can be moved up by 3", pb_bytes_copy_within(record, sizeof record, 0, 5, 3), true);
     expect("the first byte is now at 3", record[3], 3);
+    expect("the damaged byte is now at 6", record[6], 0xff);
     expect("the record can be moved up by 4", pb_bytes_copy_within(record, sizeof record, 0, 5, 4), false);
 
     expect("-7 by 3 leaves, Euclidean", (uint64_t)pb_i64_checked_rem_euclid(-7, 3).value, 2);
