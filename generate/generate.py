@@ -1,16 +1,18 @@
 #!/usr/bin/env python3
-"""Writes what exists once per width, from templates: the crates unsigned8 .. signed_size, zeros and number_bytes16 .. number_bytes64, the face's modules,
-and what the programs have of each kind.
+"""Writes what exists once per width, from templates: the crates unsigned8 .. signed_size, zeros, number_bytes16 .. number_bytes64 and decimal, the faces,
+what the programs have of each kind, and the bindings for C and Rust.
 
     python3 generate/generate.py           write
     python3 generate/generate.py --check   only compare; exit status 1 where a file differs, is missing, or is one too many
 
 A template is the code itself with some words in capitals (the table `words` in templates.py). NAME.VARIANT.rt.in stands in for NAME.rt.in at the widths of
 that variant."""
+import glob
 import os
 import sys
 
 import beyond
+import bindings
 import decimals
 import digits
 import integers
@@ -25,6 +27,8 @@ def stored(made):
     for folder in {os.path.dirname(path) for path in made if os.path.basename(path) == "Proof.antt"}:
         for place, _, files in os.walk(os.path.dirname(folder)):
             yield from (os.path.join(place, file) for file in files)
+    for folder in bindings.WHOLE:
+        yield from glob.glob(os.path.join(folder, "*"))
 
 
 def main():
@@ -32,6 +36,7 @@ def main():
     if sys.argv[1:] and not check:
         sys.exit(__doc__)
     made = {path: text for family in FAMILIES for path, text in family.files()}
+    made.update(bindings.files(made))
     strays = sorted(set(stored(made)) - set(made))
     changed = [path for path, text in made.items() if not os.path.exists(path) or read(path) != text]
     for path in changed + strays:

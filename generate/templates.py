@@ -71,3 +71,12 @@ def laid_out(text):
         return match.group(1) + line + "\n" if len(line) <= 50 else match.group(0)
 
     return re.sub(r"^( +)if (.*) \{\n +([^;{}\n]*)\n\1\} else \{\n +([^;{}\n]*)\n\1\}\n", joined, text, flags=re.M)
+
+
+def filled_file(name, **parts):
+    """A template whose lines of one word in capitals stand for whole parts."""
+    text = read(os.path.join(TEMPLATES, name))
+    for word, part in parts.items():
+        assert word + "\n" in text, (name, word)
+        text = text.replace(word + "\n", part)
+    return text

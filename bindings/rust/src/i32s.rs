@@ -1,0 +1,358 @@
+//! Operations on i32, the signed numbers of 32 bits: -2147483648 to 2147483647.
+
+use crate::exported;
+use crate::ordering;
+use core::cmp::Ordering;
+
+/// The sum `x + y`, wrapped: the signed number of 32 bits that differs from it by a multiple of 2^32.
+///
+/// ```
+/// use promisebook::i32s;
+/// assert_eq!(i32s::wrapping_add(2147483620, 100), -2147483576);
+/// assert_eq!(i32s::wrapping_add(-100, 100), 0);
+/// ```
+#[inline]
+#[must_use]
+pub fn wrapping_add(x: i32, y: i32) -> i32 {
+    exported::pb_i32_wrapping_add(x, y)
+}
+
+/// The sum `x + y`, wrapped: the signed number of 32 bits that differs from it by a multiple of 2^32.
+///
+/// ```
+/// use promisebook::i32s;
+/// assert_eq!(i32s::wrapping_add_unsigned(-2147483620, 4294967240), 2147483620);
+/// assert_eq!(i32s::wrapping_add_unsigned(100, 4294967240), 44);
+/// ```
+#[inline]
+#[must_use]
+pub fn wrapping_add_unsigned(x: i32, y: u32) -> i32 {
+    exported::pb_i32_wrapping_add_unsigned(x, y)
+}
+
+/// The difference `x - y`, wrapped: the signed number of 32 bits that differs from it by a multiple of 2^32.
+///
+/// ```
+/// use promisebook::i32s;
+/// assert_eq!(i32s::wrapping_sub(-2147483648, 1), 2147483647);
+/// assert_eq!(i32s::wrapping_sub(-2147483647, 1), -2147483648);
+/// ```
+#[inline]
+#[must_use]
+pub fn wrapping_sub(x: i32, y: i32) -> i32 {
+    exported::pb_i32_wrapping_sub(x, y)
+}
+
+/// The product `x * y`, wrapped: the signed number of 32 bits that differs from it by a multiple of 2^32.
+///
+/// ```
+/// use promisebook::i32s;
+/// assert_eq!(i32s::wrapping_mul(-2147483648, -1), -2147483648);
+/// assert_eq!(i32s::wrapping_mul(-2147483647, -1), 2147483647);
+/// ```
+#[inline]
+#[must_use]
+pub fn wrapping_mul(x: i32, y: i32) -> i32 {
+    exported::pb_i32_wrapping_mul(x, y)
+}
+
+/// `x` shifted to the left by `rhs` modulo 32: zeros come in, and what leaves the 32 bits is lost.
+///
+/// ```
+/// use promisebook::i32s;
+/// assert_eq!(i32s::wrapping_shl(1, 33), 2);
+/// assert_eq!(i32s::wrapping_shl(3, 31), -2147483648);
+/// ```
+#[inline]
+#[must_use]
+pub fn wrapping_shl(x: i32, rhs: u32) -> i32 {
+    exported::pb_i32_wrapping_shl(x, rhs)
+}
+
+/// `x` shifted to the right by `rhs` modulo 32: the sign comes in, so that it is the quotient by 2 to that power,
+/// rounded down.
+///
+/// ```
+/// use promisebook::i32s;
+/// assert_eq!(i32s::wrapping_shr(-2147483648, 63), -1);
+/// assert_eq!(i32s::wrapping_shr(-7, 33), -4);
+/// ```
+#[inline]
+#[must_use]
+pub fn wrapping_shr(x: i32, rhs: u32) -> i32 {
+    exported::pb_i32_wrapping_shr(x, rhs)
+}
+
+/// The sum `x + y`. Refused where it is not from -2147483648 to 2147483647.
+///
+/// ```
+/// use promisebook::i32s;
+/// assert_eq!(i32s::checked_add(2147483620, 100), None);
+/// assert_eq!(i32s::checked_add(-100, 100), Some(0));
+/// ```
+#[inline]
+#[must_use]
+pub fn checked_add(x: i32, y: i32) -> Option<i32> {
+    let answer = exported::pb_i32_checked_add(x, y);
+    answer.ok.then_some(answer.value)
+}
+
+/// The sum `x + y`. Refused where it is not from -2147483648 to 2147483647.
+///
+/// ```
+/// use promisebook::i32s;
+/// assert_eq!(i32s::checked_add_unsigned(-2147483620, 4294967240), Some(2147483620));
+/// assert_eq!(i32s::checked_add_unsigned(100, 4294967240), None);
+/// ```
+#[inline]
+#[must_use]
+pub fn checked_add_unsigned(x: i32, y: u32) -> Option<i32> {
+    let answer = exported::pb_i32_checked_add_unsigned(x, y);
+    answer.ok.then_some(answer.value)
+}
+
+/// The difference `x - y`. Refused where it is not from -2147483648 to 2147483647.
+///
+/// ```
+/// use promisebook::i32s;
+/// assert_eq!(i32s::checked_sub(-2147483648, 1), None);
+/// assert_eq!(i32s::checked_sub(-2147483647, 1), Some(-2147483648));
+/// ```
+#[inline]
+#[must_use]
+pub fn checked_sub(x: i32, y: i32) -> Option<i32> {
+    let answer = exported::pb_i32_checked_sub(x, y);
+    answer.ok.then_some(answer.value)
+}
+
+/// The difference `x - y`. Refused where it is not from -2147483648 to 2147483647.
+///
+/// ```
+/// use promisebook::i32s;
+/// assert_eq!(i32s::checked_sub_unsigned(100, 200), Some(-100));
+/// assert_eq!(i32s::checked_sub_unsigned(-2147483620, 200), None);
+/// ```
+#[inline]
+#[must_use]
+pub fn checked_sub_unsigned(x: i32, y: u32) -> Option<i32> {
+    let answer = exported::pb_i32_checked_sub_unsigned(x, y);
+    answer.ok.then_some(answer.value)
+}
+
+/// The product `x * y`. Refused where it is not from -2147483648 to 2147483647.
+///
+/// ```
+/// use promisebook::i32s;
+/// assert_eq!(i32s::checked_mul(-2147483648, -1), None);
+/// assert_eq!(i32s::checked_mul(-2147483647, -1), Some(2147483647));
+/// ```
+#[inline]
+#[must_use]
+pub fn checked_mul(x: i32, y: i32) -> Option<i32> {
+    let answer = exported::pb_i32_checked_mul(x, y);
+    answer.ok.then_some(answer.value)
+}
+
+/// The quotient of `x` by `y`, rounded towards zero. Refused where `y` is 0, and where `x` is -2147483648 and `y`
+/// is -1, since the quotient does not fit.
+///
+/// ```
+/// use promisebook::i32s;
+/// assert_eq!(i32s::checked_div(7, 3), Some(2));
+/// assert_eq!(i32s::checked_div(-7, 3), Some(-2));
+/// assert_eq!(i32s::checked_div(7, -3), Some(-2));
+/// assert_eq!(i32s::checked_div(-7, -3), Some(2));
+/// assert_eq!(i32s::checked_div(-2147483648, -1), None);
+/// assert_eq!(i32s::checked_div(7, 0), None);
+/// ```
+#[inline]
+#[must_use]
+pub fn checked_div(x: i32, y: i32) -> Option<i32> {
+    let answer = exported::pb_i32_checked_div(x, y);
+    answer.ok.then_some(answer.value)
+}
+
+/// The quotient of `x` by `y` whose remainder is not negative. Refused where `y` is 0, and where `x` is
+/// -2147483648 and `y` is -1, since the quotient does not fit.
+///
+/// ```
+/// use promisebook::i32s;
+/// assert_eq!(i32s::checked_div_euclid(7, 3), Some(2));
+/// assert_eq!(i32s::checked_div_euclid(-7, 3), Some(-3));
+/// assert_eq!(i32s::checked_div_euclid(7, -3), Some(-2));
+/// assert_eq!(i32s::checked_div_euclid(-7, -3), Some(3));
+/// assert_eq!(i32s::checked_div_euclid(-2147483648, -1), None);
+/// assert_eq!(i32s::checked_div_euclid(7, 0), None);
+/// ```
+#[inline]
+#[must_use]
+pub fn checked_div_euclid(x: i32, y: i32) -> Option<i32> {
+    let answer = exported::pb_i32_checked_div_euclid(x, y);
+    answer.ok.then_some(answer.value)
+}
+
+/// The remainder of `x` by `y`, which has the sign of `x`. Refused where `y` is 0, and where `x` is -2147483648
+/// and `y` is -1, since the quotient does not fit.
+///
+/// ```
+/// use promisebook::i32s;
+/// assert_eq!(i32s::checked_rem(7, 3), Some(1));
+/// assert_eq!(i32s::checked_rem(-7, 3), Some(-1));
+/// assert_eq!(i32s::checked_rem(7, -3), Some(1));
+/// assert_eq!(i32s::checked_rem(-7, -3), Some(-1));
+/// assert_eq!(i32s::checked_rem(-2147483648, -1), None);
+/// assert_eq!(i32s::checked_rem(7, 0), None);
+/// ```
+#[inline]
+#[must_use]
+pub fn checked_rem(x: i32, y: i32) -> Option<i32> {
+    let answer = exported::pb_i32_checked_rem(x, y);
+    answer.ok.then_some(answer.value)
+}
+
+/// The remainder of `x` by `y` that is not negative. Refused where `y` is 0, and where `x` is -2147483648 and `y`
+/// is -1, since the quotient does not fit.
+///
+/// ```
+/// use promisebook::i32s;
+/// assert_eq!(i32s::checked_rem_euclid(7, 3), Some(1));
+/// assert_eq!(i32s::checked_rem_euclid(-7, 3), Some(2));
+/// assert_eq!(i32s::checked_rem_euclid(7, -3), Some(1));
+/// assert_eq!(i32s::checked_rem_euclid(-7, -3), Some(2));
+/// assert_eq!(i32s::checked_rem_euclid(-2147483648, -1), None);
+/// assert_eq!(i32s::checked_rem_euclid(7, 0), None);
+/// ```
+#[inline]
+#[must_use]
+pub fn checked_rem_euclid(x: i32, y: i32) -> Option<i32> {
+    let answer = exported::pb_i32_checked_rem_euclid(x, y);
+    answer.ok.then_some(answer.value)
+}
+
+/// `x` itself.
+///
+/// ```
+/// use promisebook::i32s;
+/// assert_eq!(i32s::clone(2147483647), 2147483647);
+/// assert_eq!(i32s::clone(-2147483648), -2147483648);
+/// ```
+#[inline]
+#[must_use]
+pub fn clone(x: i32) -> i32 {
+    exported::pb_i32_clone(x)
+}
+
+/// Whether `x` and `y` are equal.
+///
+/// ```
+/// use promisebook::i32s;
+/// assert!(!i32s::eq(3, 5));
+/// assert!(i32s::eq(5, 5));
+/// assert!(!i32s::eq(2147483647, -2147483648));
+/// ```
+#[inline]
+#[must_use]
+pub fn eq(x: i32, y: i32) -> bool {
+    exported::pb_i32_eq(x, y)
+}
+
+/// Whether `x` and `y` differ.
+///
+/// ```
+/// use promisebook::i32s;
+/// assert!(i32s::ne(3, 5));
+/// assert!(!i32s::ne(5, 5));
+/// assert!(i32s::ne(2147483647, -2147483648));
+/// ```
+#[inline]
+#[must_use]
+pub fn ne(x: i32, y: i32) -> bool {
+    exported::pb_i32_ne(x, y)
+}
+
+/// Whether `x` is less than `y`.
+///
+/// ```
+/// use promisebook::i32s;
+/// assert!(i32s::lt(3, 5));
+/// assert!(!i32s::lt(5, 5));
+/// assert!(!i32s::lt(2147483647, -2147483648));
+/// ```
+#[inline]
+#[must_use]
+pub fn lt(x: i32, y: i32) -> bool {
+    exported::pb_i32_lt(x, y)
+}
+
+/// Whether `x` is less than `y` or equal to it.
+///
+/// ```
+/// use promisebook::i32s;
+/// assert!(i32s::le(3, 5));
+/// assert!(i32s::le(5, 5));
+/// assert!(!i32s::le(2147483647, -2147483648));
+/// ```
+#[inline]
+#[must_use]
+pub fn le(x: i32, y: i32) -> bool {
+    exported::pb_i32_le(x, y)
+}
+
+/// Whether `x` is greater than `y`.
+///
+/// ```
+/// use promisebook::i32s;
+/// assert!(!i32s::gt(3, 5));
+/// assert!(!i32s::gt(5, 5));
+/// assert!(i32s::gt(2147483647, -2147483648));
+/// ```
+#[inline]
+#[must_use]
+pub fn gt(x: i32, y: i32) -> bool {
+    exported::pb_i32_gt(x, y)
+}
+
+/// Whether `x` is greater than `y` or equal to it.
+///
+/// ```
+/// use promisebook::i32s;
+/// assert!(!i32s::ge(3, 5));
+/// assert!(i32s::ge(5, 5));
+/// assert!(i32s::ge(2147483647, -2147483648));
+/// ```
+#[inline]
+#[must_use]
+pub fn ge(x: i32, y: i32) -> bool {
+    exported::pb_i32_ge(x, y)
+}
+
+/// How `x` stands to `y`: less (-1), equal (0) or greater (1).
+///
+/// ```
+/// use core::cmp::Ordering;
+/// use promisebook::i32s;
+/// assert_eq!(i32s::cmp(3, 5), Ordering::Less);
+/// assert_eq!(i32s::cmp(5, 5), Ordering::Equal);
+/// assert_eq!(i32s::cmp(2147483647, -2147483648), Ordering::Greater);
+/// ```
+#[inline]
+#[must_use]
+pub fn cmp(x: i32, y: i32) -> Ordering {
+    ordering(exported::pb_i32_cmp(x, y))
+}
+
+/// How `x` stands to `y`: less (-1), equal (0) or greater (1). Never refused.
+///
+/// ```
+/// use core::cmp::Ordering;
+/// use promisebook::i32s;
+/// assert_eq!(i32s::partial_cmp(3, 5), Some(Ordering::Less));
+/// assert_eq!(i32s::partial_cmp(5, 5), Some(Ordering::Equal));
+/// assert_eq!(i32s::partial_cmp(2147483647, -2147483648), Some(Ordering::Greater));
+/// ```
+#[inline]
+#[must_use]
+pub fn partial_cmp(x: i32, y: i32) -> Option<Ordering> {
+    let answer = exported::pb_i32_partial_cmp(x, y);
+    answer.ok.then_some(ordering(answer.value))
+}

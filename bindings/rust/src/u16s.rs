@@ -1,0 +1,492 @@
+//! Operations on u16, the unsigned numbers of 16 bits: 0 to 65535.
+
+use crate::exported;
+use crate::ordering;
+use core::cmp::Ordering;
+
+/// The sum `x + y`, wrapped: the unsigned number of 16 bits that differs from it by a multiple of 2^16.
+///
+/// ```
+/// use promisebook::u16s;
+/// assert_eq!(u16s::wrapping_add(65480, 100), 44);
+/// assert_eq!(u16s::wrapping_add(65380, 100), 65480);
+/// ```
+#[inline]
+#[must_use]
+pub fn wrapping_add(x: u16, y: u16) -> u16 {
+    exported::pb_u16_wrapping_add(x, y)
+}
+
+/// The sum `x + y`, wrapped: the unsigned number of 16 bits that differs from it by a multiple of 2^16.
+///
+/// ```
+/// use promisebook::u16s;
+/// assert_eq!(u16s::wrapping_add_signed(3, -5), 65534);
+/// assert_eq!(u16s::wrapping_add_signed(65480, -100), 65380);
+/// assert_eq!(u16s::wrapping_add_signed(65480, 100), 44);
+/// ```
+#[inline]
+#[must_use]
+pub fn wrapping_add_signed(x: u16, y: i16) -> u16 {
+    exported::pb_u16_wrapping_add_signed(x, y)
+}
+
+/// The difference `x - y`, wrapped: the unsigned number of 16 bits that differs from it by a multiple of 2^16.
+///
+/// ```
+/// use promisebook::u16s;
+/// assert_eq!(u16s::wrapping_sub(3, 5), 65534);
+/// assert_eq!(u16s::wrapping_sub(5, 3), 2);
+/// ```
+#[inline]
+#[must_use]
+pub fn wrapping_sub(x: u16, y: u16) -> u16 {
+    exported::pb_u16_wrapping_sub(x, y)
+}
+
+/// The product `x * y`, wrapped: the unsigned number of 16 bits that differs from it by a multiple of 2^16.
+///
+/// ```
+/// use promisebook::u16s;
+/// assert_eq!(u16s::wrapping_mul(256, 257), 256);
+/// assert_eq!(u16s::wrapping_mul(255, 257), 65535);
+/// assert_eq!(u16s::wrapping_mul(255, 255), 65025);
+/// ```
+#[inline]
+#[must_use]
+pub fn wrapping_mul(x: u16, y: u16) -> u16 {
+    exported::pb_u16_wrapping_mul(x, y)
+}
+
+/// `x` shifted to the left by `rhs` modulo 16: zeros come in, and what leaves the 16 bits is lost.
+///
+/// ```
+/// use promisebook::u16s;
+/// assert_eq!(u16s::wrapping_shl(1, 17), 2);
+/// assert_eq!(u16s::wrapping_shl(3, 15), 32768);
+/// ```
+#[inline]
+#[must_use]
+pub fn wrapping_shl(x: u16, rhs: u32) -> u16 {
+    exported::pb_u16_wrapping_shl(x, rhs)
+}
+
+/// `x` shifted to the right by `rhs` modulo 16: zeros come in.
+///
+/// ```
+/// use promisebook::u16s;
+/// assert_eq!(u16s::wrapping_shr(32768, 31), 1);
+/// ```
+#[inline]
+#[must_use]
+pub fn wrapping_shr(x: u16, rhs: u32) -> u16 {
+    exported::pb_u16_wrapping_shr(x, rhs)
+}
+
+/// The sum `x + y`. Refused where it is not from 0 to 65535.
+///
+/// ```
+/// use promisebook::u16s;
+/// assert_eq!(u16s::checked_add(65480, 100), None);
+/// assert_eq!(u16s::checked_add(65380, 100), Some(65480));
+/// ```
+#[inline]
+#[must_use]
+pub fn checked_add(x: u16, y: u16) -> Option<u16> {
+    let answer = exported::pb_u16_checked_add(x, y);
+    answer.ok.then_some(answer.value)
+}
+
+/// The sum `x + y`. Refused where it is not from 0 to 65535.
+///
+/// ```
+/// use promisebook::u16s;
+/// assert_eq!(u16s::checked_add_signed(3, -5), None);
+/// assert_eq!(u16s::checked_add_signed(65480, -100), Some(65380));
+/// assert_eq!(u16s::checked_add_signed(65480, 100), None);
+/// ```
+#[inline]
+#[must_use]
+pub fn checked_add_signed(x: u16, y: i16) -> Option<u16> {
+    let answer = exported::pb_u16_checked_add_signed(x, y);
+    answer.ok.then_some(answer.value)
+}
+
+/// The difference `x - y`. Refused where it is not from 0 to 65535.
+///
+/// ```
+/// use promisebook::u16s;
+/// assert_eq!(u16s::checked_sub(3, 5), None);
+/// assert_eq!(u16s::checked_sub(5, 3), Some(2));
+/// ```
+#[inline]
+#[must_use]
+pub fn checked_sub(x: u16, y: u16) -> Option<u16> {
+    let answer = exported::pb_u16_checked_sub(x, y);
+    answer.ok.then_some(answer.value)
+}
+
+/// The product `x * y`. Refused where it is not from 0 to 65535.
+///
+/// ```
+/// use promisebook::u16s;
+/// assert_eq!(u16s::checked_mul(256, 257), None);
+/// assert_eq!(u16s::checked_mul(255, 257), Some(65535));
+/// assert_eq!(u16s::checked_mul(255, 255), Some(65025));
+/// ```
+#[inline]
+#[must_use]
+pub fn checked_mul(x: u16, y: u16) -> Option<u16> {
+    let answer = exported::pb_u16_checked_mul(x, y);
+    answer.ok.then_some(answer.value)
+}
+
+/// The smallest multiple of `y` that is at least `x`. Refused where `y` is 0 or the multiple is above 65535.
+///
+/// ```
+/// use promisebook::u16s;
+/// assert_eq!(u16s::checked_next_multiple_of(65530, 7), Some(65534));
+/// assert_eq!(u16s::checked_next_multiple_of(65530, 16), None);
+/// assert_eq!(u16s::checked_next_multiple_of(7, 0), None);
+/// ```
+#[inline]
+#[must_use]
+pub fn checked_next_multiple_of(x: u16, y: u16) -> Option<u16> {
+    let answer = exported::pb_u16_checked_next_multiple_of(x, y);
+    answer.ok.then_some(answer.value)
+}
+
+/// The quotient of `x` by `y`, rounded towards zero. Refused where `y` is 0.
+///
+/// ```
+/// use promisebook::u16s;
+/// assert_eq!(u16s::checked_div(7, 3), Some(2));
+/// assert_eq!(u16s::checked_div(65535, 10), Some(6553));
+/// assert_eq!(u16s::checked_div(7, 0), None);
+/// ```
+#[inline]
+#[must_use]
+pub fn checked_div(x: u16, y: u16) -> Option<u16> {
+    let answer = exported::pb_u16_checked_div(x, y);
+    answer.ok.then_some(answer.value)
+}
+
+/// The quotient of `x` by `y` whose remainder is not negative. Refused where `y` is 0.
+///
+/// ```
+/// use promisebook::u16s;
+/// assert_eq!(u16s::checked_div_euclid(7, 3), Some(2));
+/// assert_eq!(u16s::checked_div_euclid(65535, 10), Some(6553));
+/// assert_eq!(u16s::checked_div_euclid(7, 0), None);
+/// ```
+#[inline]
+#[must_use]
+pub fn checked_div_euclid(x: u16, y: u16) -> Option<u16> {
+    let answer = exported::pb_u16_checked_div_euclid(x, y);
+    answer.ok.then_some(answer.value)
+}
+
+/// The remainder of `x` by `y`. Refused where `y` is 0.
+///
+/// ```
+/// use promisebook::u16s;
+/// assert_eq!(u16s::checked_rem(7, 3), Some(1));
+/// assert_eq!(u16s::checked_rem(65535, 10), Some(5));
+/// assert_eq!(u16s::checked_rem(7, 0), None);
+/// ```
+#[inline]
+#[must_use]
+pub fn checked_rem(x: u16, y: u16) -> Option<u16> {
+    let answer = exported::pb_u16_checked_rem(x, y);
+    answer.ok.then_some(answer.value)
+}
+
+/// The remainder of `x` by `y` that is not negative. Refused where `y` is 0.
+///
+/// ```
+/// use promisebook::u16s;
+/// assert_eq!(u16s::checked_rem_euclid(7, 3), Some(1));
+/// assert_eq!(u16s::checked_rem_euclid(65535, 10), Some(5));
+/// assert_eq!(u16s::checked_rem_euclid(7, 0), None);
+/// ```
+#[inline]
+#[must_use]
+pub fn checked_rem_euclid(x: u16, y: u16) -> Option<u16> {
+    let answer = exported::pb_u16_checked_rem_euclid(x, y);
+    answer.ok.then_some(answer.value)
+}
+
+/// The sum `x + y`, or 65535 where it is larger.
+///
+/// ```
+/// use promisebook::u16s;
+/// assert_eq!(u16s::saturating_add(65480, 100), 65535);
+/// assert_eq!(u16s::saturating_add(65380, 100), 65480);
+/// ```
+#[inline]
+#[must_use]
+pub fn saturating_add(x: u16, y: u16) -> u16 {
+    exported::pb_u16_saturating_add(x, y)
+}
+
+/// The difference `x - y`, or 0 where it is below that.
+///
+/// ```
+/// use promisebook::u16s;
+/// assert_eq!(u16s::saturating_sub(3, 5), 0);
+/// assert_eq!(u16s::saturating_sub(5, 3), 2);
+/// ```
+#[inline]
+#[must_use]
+pub fn saturating_sub(x: u16, y: u16) -> u16 {
+    exported::pb_u16_saturating_sub(x, y)
+}
+
+/// The product `x * y`, or 65535 where it is larger.
+///
+/// ```
+/// use promisebook::u16s;
+/// assert_eq!(u16s::saturating_mul(256, 257), 65535);
+/// assert_eq!(u16s::saturating_mul(255, 257), 65535);
+/// assert_eq!(u16s::saturating_mul(255, 255), 65025);
+/// ```
+#[inline]
+#[must_use]
+pub fn saturating_mul(x: u16, y: u16) -> u16 {
+    exported::pb_u16_saturating_mul(x, y)
+}
+
+/// Whether `x` is a multiple of `y`; of 0 only 0 is.
+///
+/// ```
+/// use promisebook::u16s;
+/// assert!(u16s::is_multiple_of(252, 7));
+/// assert!(!u16s::is_multiple_of(250, 7));
+/// assert!(u16s::is_multiple_of(0, 0));
+/// assert!(!u16s::is_multiple_of(7, 0));
+/// ```
+#[inline]
+#[must_use]
+pub fn is_multiple_of(x: u16, y: u16) -> bool {
+    exported::pb_u16_is_multiple_of(x, y)
+}
+
+/// `x` itself.
+///
+/// ```
+/// use promisebook::u16s;
+/// assert_eq!(u16s::clone(65535), 65535);
+/// assert_eq!(u16s::clone(0), 0);
+/// ```
+#[inline]
+#[must_use]
+pub fn clone(x: u16) -> u16 {
+    exported::pb_u16_clone(x)
+}
+
+/// Whether `x` and `y` are equal.
+///
+/// ```
+/// use promisebook::u16s;
+/// assert!(!u16s::eq(3, 5));
+/// assert!(u16s::eq(5, 5));
+/// assert!(!u16s::eq(65535, 0));
+/// ```
+#[inline]
+#[must_use]
+pub fn eq(x: u16, y: u16) -> bool {
+    exported::pb_u16_eq(x, y)
+}
+
+/// Whether `x` and `y` differ.
+///
+/// ```
+/// use promisebook::u16s;
+/// assert!(u16s::ne(3, 5));
+/// assert!(!u16s::ne(5, 5));
+/// assert!(u16s::ne(65535, 0));
+/// ```
+#[inline]
+#[must_use]
+pub fn ne(x: u16, y: u16) -> bool {
+    exported::pb_u16_ne(x, y)
+}
+
+/// Whether `x` is less than `y`.
+///
+/// ```
+/// use promisebook::u16s;
+/// assert!(u16s::lt(3, 5));
+/// assert!(!u16s::lt(5, 5));
+/// assert!(!u16s::lt(65535, 0));
+/// ```
+#[inline]
+#[must_use]
+pub fn lt(x: u16, y: u16) -> bool {
+    exported::pb_u16_lt(x, y)
+}
+
+/// Whether `x` is less than `y` or equal to it.
+///
+/// ```
+/// use promisebook::u16s;
+/// assert!(u16s::le(3, 5));
+/// assert!(u16s::le(5, 5));
+/// assert!(!u16s::le(65535, 0));
+/// ```
+#[inline]
+#[must_use]
+pub fn le(x: u16, y: u16) -> bool {
+    exported::pb_u16_le(x, y)
+}
+
+/// Whether `x` is greater than `y`.
+///
+/// ```
+/// use promisebook::u16s;
+/// assert!(!u16s::gt(3, 5));
+/// assert!(!u16s::gt(5, 5));
+/// assert!(u16s::gt(65535, 0));
+/// ```
+#[inline]
+#[must_use]
+pub fn gt(x: u16, y: u16) -> bool {
+    exported::pb_u16_gt(x, y)
+}
+
+/// Whether `x` is greater than `y` or equal to it.
+///
+/// ```
+/// use promisebook::u16s;
+/// assert!(!u16s::ge(3, 5));
+/// assert!(u16s::ge(5, 5));
+/// assert!(u16s::ge(65535, 0));
+/// ```
+#[inline]
+#[must_use]
+pub fn ge(x: u16, y: u16) -> bool {
+    exported::pb_u16_ge(x, y)
+}
+
+/// How `x` stands to `y`: less (-1), equal (0) or greater (1).
+///
+/// ```
+/// use core::cmp::Ordering;
+/// use promisebook::u16s;
+/// assert_eq!(u16s::cmp(3, 5), Ordering::Less);
+/// assert_eq!(u16s::cmp(5, 5), Ordering::Equal);
+/// assert_eq!(u16s::cmp(65535, 0), Ordering::Greater);
+/// ```
+#[inline]
+#[must_use]
+pub fn cmp(x: u16, y: u16) -> Ordering {
+    ordering(exported::pb_u16_cmp(x, y))
+}
+
+/// How `x` stands to `y`: less (-1), equal (0) or greater (1). Never refused.
+///
+/// ```
+/// use core::cmp::Ordering;
+/// use promisebook::u16s;
+/// assert_eq!(u16s::partial_cmp(3, 5), Some(Ordering::Less));
+/// assert_eq!(u16s::partial_cmp(5, 5), Some(Ordering::Equal));
+/// assert_eq!(u16s::partial_cmp(65535, 0), Some(Ordering::Greater));
+/// ```
+#[inline]
+#[must_use]
+pub fn partial_cmp(x: u16, y: u16) -> Option<Ordering> {
+    let answer = exported::pb_u16_partial_cmp(x, y);
+    answer.ok.then_some(ordering(answer.value))
+}
+
+/// The number whose 2 bytes are `s`, lowest first. Refused where `s` has another length.
+///
+/// ```
+/// use promisebook::u16s;
+/// assert_eq!(u16s::from_le_bytes(&[2, 1]), Some(258));
+/// assert_eq!(u16s::from_le_bytes(&[1]), None);
+/// ```
+#[inline]
+#[must_use]
+pub fn from_le_bytes(s: &[u8]) -> Option<u16> {
+    let answer = exported::u16_from_le_bytes(s);
+    answer.ok.then_some(answer.value)
+}
+
+/// Writes the 2 bytes of `x` into `s` from the place `at` on, lowest first, and changes no other byte. Refused
+/// where they do not fit there.
+///
+/// ```
+/// use promisebook::u16s;
+/// let mut s = [0, 0, 0];
+/// assert_eq!(u16s::to_le_bytes(258, &mut s, 1), Some(()));
+/// assert_eq!(s, [0, 2, 1]);
+/// let mut s = [0, 0, 0];
+/// assert_eq!(u16s::to_le_bytes(258, &mut s, 2), None);
+/// assert_eq!(s, [0, 0, 0]);
+/// ```
+#[inline]
+#[must_use]
+pub fn to_le_bytes(x: u16, s: &mut [u8], at: usize) -> Option<()> {
+    exported::u16_to_le_bytes(x, s, at).then_some(())
+}
+
+/// How many bits of `i` are 0 from the highest on, up to the first 1; 16 where all are.
+///
+/// ```
+/// use promisebook::u16s;
+/// assert_eq!(u16s::leading_zeros(80), 9);
+/// assert_eq!(u16s::leading_zeros(247), 8);
+/// assert_eq!(u16s::leading_zeros(0), 16);
+/// assert_eq!(u16s::leading_zeros(65535), 0);
+/// ```
+#[inline]
+#[must_use]
+pub fn leading_zeros(i: u16) -> u32 {
+    exported::pb_u16_leading_zeros(i)
+}
+
+/// How many bits of `i` are 1 from the highest on, up to the first 0; 16 where all are.
+///
+/// ```
+/// use promisebook::u16s;
+/// assert_eq!(u16s::leading_ones(80), 0);
+/// assert_eq!(u16s::leading_ones(247), 0);
+/// assert_eq!(u16s::leading_ones(0), 0);
+/// assert_eq!(u16s::leading_ones(65535), 16);
+/// ```
+#[inline]
+#[must_use]
+pub fn leading_ones(i: u16) -> u32 {
+    exported::pb_u16_leading_ones(i)
+}
+
+/// How many bits of `i` are 0 from the lowest on, up to the first 1; 16 where all are.
+///
+/// ```
+/// use promisebook::u16s;
+/// assert_eq!(u16s::trailing_zeros(80), 4);
+/// assert_eq!(u16s::trailing_zeros(247), 0);
+/// assert_eq!(u16s::trailing_zeros(0), 16);
+/// assert_eq!(u16s::trailing_zeros(65535), 0);
+/// ```
+#[inline]
+#[must_use]
+pub fn trailing_zeros(i: u16) -> u32 {
+    exported::pb_u16_trailing_zeros(i)
+}
+
+/// How many bits of `i` are 1 from the lowest on, up to the first 0; 16 where all are.
+///
+/// ```
+/// use promisebook::u16s;
+/// assert_eq!(u16s::trailing_ones(80), 0);
+/// assert_eq!(u16s::trailing_ones(247), 3);
+/// assert_eq!(u16s::trailing_ones(0), 0);
+/// assert_eq!(u16s::trailing_ones(65535), 16);
+/// ```
+#[inline]
+#[must_use]
+pub fn trailing_ones(i: u16) -> u32 {
+    exported::pb_u16_trailing_ones(i)
+}

@@ -1,0 +1,492 @@
+//! Operations on u32, the unsigned numbers of 32 bits: 0 to 4294967295.
+
+use crate::exported;
+use crate::ordering;
+use core::cmp::Ordering;
+
+/// The sum `x + y`, wrapped: the unsigned number of 32 bits that differs from it by a multiple of 2^32.
+///
+/// ```
+/// use promisebook::u32s;
+/// assert_eq!(u32s::wrapping_add(4294967240, 100), 44);
+/// assert_eq!(u32s::wrapping_add(4294967140, 100), 4294967240);
+/// ```
+#[inline]
+#[must_use]
+pub fn wrapping_add(x: u32, y: u32) -> u32 {
+    exported::pb_u32_wrapping_add(x, y)
+}
+
+/// The sum `x + y`, wrapped: the unsigned number of 32 bits that differs from it by a multiple of 2^32.
+///
+/// ```
+/// use promisebook::u32s;
+/// assert_eq!(u32s::wrapping_add_signed(3, -5), 4294967294);
+/// assert_eq!(u32s::wrapping_add_signed(4294967240, -100), 4294967140);
+/// assert_eq!(u32s::wrapping_add_signed(4294967240, 100), 44);
+/// ```
+#[inline]
+#[must_use]
+pub fn wrapping_add_signed(x: u32, y: i32) -> u32 {
+    exported::pb_u32_wrapping_add_signed(x, y)
+}
+
+/// The difference `x - y`, wrapped: the unsigned number of 32 bits that differs from it by a multiple of 2^32.
+///
+/// ```
+/// use promisebook::u32s;
+/// assert_eq!(u32s::wrapping_sub(3, 5), 4294967294);
+/// assert_eq!(u32s::wrapping_sub(5, 3), 2);
+/// ```
+#[inline]
+#[must_use]
+pub fn wrapping_sub(x: u32, y: u32) -> u32 {
+    exported::pb_u32_wrapping_sub(x, y)
+}
+
+/// The product `x * y`, wrapped: the unsigned number of 32 bits that differs from it by a multiple of 2^32.
+///
+/// ```
+/// use promisebook::u32s;
+/// assert_eq!(u32s::wrapping_mul(65536, 65537), 65536);
+/// assert_eq!(u32s::wrapping_mul(65535, 65537), 4294967295);
+/// assert_eq!(u32s::wrapping_mul(65535, 65535), 4294836225);
+/// ```
+#[inline]
+#[must_use]
+pub fn wrapping_mul(x: u32, y: u32) -> u32 {
+    exported::pb_u32_wrapping_mul(x, y)
+}
+
+/// `x` shifted to the left by `rhs` modulo 32: zeros come in, and what leaves the 32 bits is lost.
+///
+/// ```
+/// use promisebook::u32s;
+/// assert_eq!(u32s::wrapping_shl(1, 33), 2);
+/// assert_eq!(u32s::wrapping_shl(3, 31), 2147483648);
+/// ```
+#[inline]
+#[must_use]
+pub fn wrapping_shl(x: u32, rhs: u32) -> u32 {
+    exported::pb_u32_wrapping_shl(x, rhs)
+}
+
+/// `x` shifted to the right by `rhs` modulo 32: zeros come in.
+///
+/// ```
+/// use promisebook::u32s;
+/// assert_eq!(u32s::wrapping_shr(2147483648, 63), 1);
+/// ```
+#[inline]
+#[must_use]
+pub fn wrapping_shr(x: u32, rhs: u32) -> u32 {
+    exported::pb_u32_wrapping_shr(x, rhs)
+}
+
+/// The sum `x + y`. Refused where it is not from 0 to 4294967295.
+///
+/// ```
+/// use promisebook::u32s;
+/// assert_eq!(u32s::checked_add(4294967240, 100), None);
+/// assert_eq!(u32s::checked_add(4294967140, 100), Some(4294967240));
+/// ```
+#[inline]
+#[must_use]
+pub fn checked_add(x: u32, y: u32) -> Option<u32> {
+    let answer = exported::pb_u32_checked_add(x, y);
+    answer.ok.then_some(answer.value)
+}
+
+/// The sum `x + y`. Refused where it is not from 0 to 4294967295.
+///
+/// ```
+/// use promisebook::u32s;
+/// assert_eq!(u32s::checked_add_signed(3, -5), None);
+/// assert_eq!(u32s::checked_add_signed(4294967240, -100), Some(4294967140));
+/// assert_eq!(u32s::checked_add_signed(4294967240, 100), None);
+/// ```
+#[inline]
+#[must_use]
+pub fn checked_add_signed(x: u32, y: i32) -> Option<u32> {
+    let answer = exported::pb_u32_checked_add_signed(x, y);
+    answer.ok.then_some(answer.value)
+}
+
+/// The difference `x - y`. Refused where it is not from 0 to 4294967295.
+///
+/// ```
+/// use promisebook::u32s;
+/// assert_eq!(u32s::checked_sub(3, 5), None);
+/// assert_eq!(u32s::checked_sub(5, 3), Some(2));
+/// ```
+#[inline]
+#[must_use]
+pub fn checked_sub(x: u32, y: u32) -> Option<u32> {
+    let answer = exported::pb_u32_checked_sub(x, y);
+    answer.ok.then_some(answer.value)
+}
+
+/// The product `x * y`. Refused where it is not from 0 to 4294967295.
+///
+/// ```
+/// use promisebook::u32s;
+/// assert_eq!(u32s::checked_mul(65536, 65537), None);
+/// assert_eq!(u32s::checked_mul(65535, 65537), Some(4294967295));
+/// assert_eq!(u32s::checked_mul(65535, 65535), Some(4294836225));
+/// ```
+#[inline]
+#[must_use]
+pub fn checked_mul(x: u32, y: u32) -> Option<u32> {
+    let answer = exported::pb_u32_checked_mul(x, y);
+    answer.ok.then_some(answer.value)
+}
+
+/// The smallest multiple of `y` that is at least `x`. Refused where `y` is 0 or the multiple is above 4294967295.
+///
+/// ```
+/// use promisebook::u32s;
+/// assert_eq!(u32s::checked_next_multiple_of(4294967290, 7), Some(4294967292));
+/// assert_eq!(u32s::checked_next_multiple_of(4294967290, 16), None);
+/// assert_eq!(u32s::checked_next_multiple_of(7, 0), None);
+/// ```
+#[inline]
+#[must_use]
+pub fn checked_next_multiple_of(x: u32, y: u32) -> Option<u32> {
+    let answer = exported::pb_u32_checked_next_multiple_of(x, y);
+    answer.ok.then_some(answer.value)
+}
+
+/// The quotient of `x` by `y`, rounded towards zero. Refused where `y` is 0.
+///
+/// ```
+/// use promisebook::u32s;
+/// assert_eq!(u32s::checked_div(7, 3), Some(2));
+/// assert_eq!(u32s::checked_div(4294967295, 10), Some(429496729));
+/// assert_eq!(u32s::checked_div(7, 0), None);
+/// ```
+#[inline]
+#[must_use]
+pub fn checked_div(x: u32, y: u32) -> Option<u32> {
+    let answer = exported::pb_u32_checked_div(x, y);
+    answer.ok.then_some(answer.value)
+}
+
+/// The quotient of `x` by `y` whose remainder is not negative. Refused where `y` is 0.
+///
+/// ```
+/// use promisebook::u32s;
+/// assert_eq!(u32s::checked_div_euclid(7, 3), Some(2));
+/// assert_eq!(u32s::checked_div_euclid(4294967295, 10), Some(429496729));
+/// assert_eq!(u32s::checked_div_euclid(7, 0), None);
+/// ```
+#[inline]
+#[must_use]
+pub fn checked_div_euclid(x: u32, y: u32) -> Option<u32> {
+    let answer = exported::pb_u32_checked_div_euclid(x, y);
+    answer.ok.then_some(answer.value)
+}
+
+/// The remainder of `x` by `y`. Refused where `y` is 0.
+///
+/// ```
+/// use promisebook::u32s;
+/// assert_eq!(u32s::checked_rem(7, 3), Some(1));
+/// assert_eq!(u32s::checked_rem(4294967295, 10), Some(5));
+/// assert_eq!(u32s::checked_rem(7, 0), None);
+/// ```
+#[inline]
+#[must_use]
+pub fn checked_rem(x: u32, y: u32) -> Option<u32> {
+    let answer = exported::pb_u32_checked_rem(x, y);
+    answer.ok.then_some(answer.value)
+}
+
+/// The remainder of `x` by `y` that is not negative. Refused where `y` is 0.
+///
+/// ```
+/// use promisebook::u32s;
+/// assert_eq!(u32s::checked_rem_euclid(7, 3), Some(1));
+/// assert_eq!(u32s::checked_rem_euclid(4294967295, 10), Some(5));
+/// assert_eq!(u32s::checked_rem_euclid(7, 0), None);
+/// ```
+#[inline]
+#[must_use]
+pub fn checked_rem_euclid(x: u32, y: u32) -> Option<u32> {
+    let answer = exported::pb_u32_checked_rem_euclid(x, y);
+    answer.ok.then_some(answer.value)
+}
+
+/// The sum `x + y`, or 4294967295 where it is larger.
+///
+/// ```
+/// use promisebook::u32s;
+/// assert_eq!(u32s::saturating_add(4294967240, 100), 4294967295);
+/// assert_eq!(u32s::saturating_add(4294967140, 100), 4294967240);
+/// ```
+#[inline]
+#[must_use]
+pub fn saturating_add(x: u32, y: u32) -> u32 {
+    exported::pb_u32_saturating_add(x, y)
+}
+
+/// The difference `x - y`, or 0 where it is below that.
+///
+/// ```
+/// use promisebook::u32s;
+/// assert_eq!(u32s::saturating_sub(3, 5), 0);
+/// assert_eq!(u32s::saturating_sub(5, 3), 2);
+/// ```
+#[inline]
+#[must_use]
+pub fn saturating_sub(x: u32, y: u32) -> u32 {
+    exported::pb_u32_saturating_sub(x, y)
+}
+
+/// The product `x * y`, or 4294967295 where it is larger.
+///
+/// ```
+/// use promisebook::u32s;
+/// assert_eq!(u32s::saturating_mul(65536, 65537), 4294967295);
+/// assert_eq!(u32s::saturating_mul(65535, 65537), 4294967295);
+/// assert_eq!(u32s::saturating_mul(65535, 65535), 4294836225);
+/// ```
+#[inline]
+#[must_use]
+pub fn saturating_mul(x: u32, y: u32) -> u32 {
+    exported::pb_u32_saturating_mul(x, y)
+}
+
+/// Whether `x` is a multiple of `y`; of 0 only 0 is.
+///
+/// ```
+/// use promisebook::u32s;
+/// assert!(u32s::is_multiple_of(252, 7));
+/// assert!(!u32s::is_multiple_of(250, 7));
+/// assert!(u32s::is_multiple_of(0, 0));
+/// assert!(!u32s::is_multiple_of(7, 0));
+/// ```
+#[inline]
+#[must_use]
+pub fn is_multiple_of(x: u32, y: u32) -> bool {
+    exported::pb_u32_is_multiple_of(x, y)
+}
+
+/// `x` itself.
+///
+/// ```
+/// use promisebook::u32s;
+/// assert_eq!(u32s::clone(4294967295), 4294967295);
+/// assert_eq!(u32s::clone(0), 0);
+/// ```
+#[inline]
+#[must_use]
+pub fn clone(x: u32) -> u32 {
+    exported::pb_u32_clone(x)
+}
+
+/// Whether `x` and `y` are equal.
+///
+/// ```
+/// use promisebook::u32s;
+/// assert!(!u32s::eq(3, 5));
+/// assert!(u32s::eq(5, 5));
+/// assert!(!u32s::eq(4294967295, 0));
+/// ```
+#[inline]
+#[must_use]
+pub fn eq(x: u32, y: u32) -> bool {
+    exported::pb_u32_eq(x, y)
+}
+
+/// Whether `x` and `y` differ.
+///
+/// ```
+/// use promisebook::u32s;
+/// assert!(u32s::ne(3, 5));
+/// assert!(!u32s::ne(5, 5));
+/// assert!(u32s::ne(4294967295, 0));
+/// ```
+#[inline]
+#[must_use]
+pub fn ne(x: u32, y: u32) -> bool {
+    exported::pb_u32_ne(x, y)
+}
+
+/// Whether `x` is less than `y`.
+///
+/// ```
+/// use promisebook::u32s;
+/// assert!(u32s::lt(3, 5));
+/// assert!(!u32s::lt(5, 5));
+/// assert!(!u32s::lt(4294967295, 0));
+/// ```
+#[inline]
+#[must_use]
+pub fn lt(x: u32, y: u32) -> bool {
+    exported::pb_u32_lt(x, y)
+}
+
+/// Whether `x` is less than `y` or equal to it.
+///
+/// ```
+/// use promisebook::u32s;
+/// assert!(u32s::le(3, 5));
+/// assert!(u32s::le(5, 5));
+/// assert!(!u32s::le(4294967295, 0));
+/// ```
+#[inline]
+#[must_use]
+pub fn le(x: u32, y: u32) -> bool {
+    exported::pb_u32_le(x, y)
+}
+
+/// Whether `x` is greater than `y`.
+///
+/// ```
+/// use promisebook::u32s;
+/// assert!(!u32s::gt(3, 5));
+/// assert!(!u32s::gt(5, 5));
+/// assert!(u32s::gt(4294967295, 0));
+/// ```
+#[inline]
+#[must_use]
+pub fn gt(x: u32, y: u32) -> bool {
+    exported::pb_u32_gt(x, y)
+}
+
+/// Whether `x` is greater than `y` or equal to it.
+///
+/// ```
+/// use promisebook::u32s;
+/// assert!(!u32s::ge(3, 5));
+/// assert!(u32s::ge(5, 5));
+/// assert!(u32s::ge(4294967295, 0));
+/// ```
+#[inline]
+#[must_use]
+pub fn ge(x: u32, y: u32) -> bool {
+    exported::pb_u32_ge(x, y)
+}
+
+/// How `x` stands to `y`: less (-1), equal (0) or greater (1).
+///
+/// ```
+/// use core::cmp::Ordering;
+/// use promisebook::u32s;
+/// assert_eq!(u32s::cmp(3, 5), Ordering::Less);
+/// assert_eq!(u32s::cmp(5, 5), Ordering::Equal);
+/// assert_eq!(u32s::cmp(4294967295, 0), Ordering::Greater);
+/// ```
+#[inline]
+#[must_use]
+pub fn cmp(x: u32, y: u32) -> Ordering {
+    ordering(exported::pb_u32_cmp(x, y))
+}
+
+/// How `x` stands to `y`: less (-1), equal (0) or greater (1). Never refused.
+///
+/// ```
+/// use core::cmp::Ordering;
+/// use promisebook::u32s;
+/// assert_eq!(u32s::partial_cmp(3, 5), Some(Ordering::Less));
+/// assert_eq!(u32s::partial_cmp(5, 5), Some(Ordering::Equal));
+/// assert_eq!(u32s::partial_cmp(4294967295, 0), Some(Ordering::Greater));
+/// ```
+#[inline]
+#[must_use]
+pub fn partial_cmp(x: u32, y: u32) -> Option<Ordering> {
+    let answer = exported::pb_u32_partial_cmp(x, y);
+    answer.ok.then_some(ordering(answer.value))
+}
+
+/// The number whose 4 bytes are `s`, lowest first. Refused where `s` has another length.
+///
+/// ```
+/// use promisebook::u32s;
+/// assert_eq!(u32s::from_le_bytes(&[4, 3, 2, 1]), Some(16909060));
+/// assert_eq!(u32s::from_le_bytes(&[3, 2, 1]), None);
+/// ```
+#[inline]
+#[must_use]
+pub fn from_le_bytes(s: &[u8]) -> Option<u32> {
+    let answer = exported::u32_from_le_bytes(s);
+    answer.ok.then_some(answer.value)
+}
+
+/// Writes the 4 bytes of `x` into `s` from the place `at` on, lowest first, and changes no other byte. Refused
+/// where they do not fit there.
+///
+/// ```
+/// use promisebook::u32s;
+/// let mut s = [0, 0, 0, 0, 0];
+/// assert_eq!(u32s::to_le_bytes(16909060, &mut s, 1), Some(()));
+/// assert_eq!(s, [0, 4, 3, 2, 1]);
+/// let mut s = [0, 0, 0, 0, 0];
+/// assert_eq!(u32s::to_le_bytes(16909060, &mut s, 2), None);
+/// assert_eq!(s, [0, 0, 0, 0, 0]);
+/// ```
+#[inline]
+#[must_use]
+pub fn to_le_bytes(x: u32, s: &mut [u8], at: usize) -> Option<()> {
+    exported::u32_to_le_bytes(x, s, at).then_some(())
+}
+
+/// How many bits of `i` are 0 from the highest on, up to the first 1; 32 where all are.
+///
+/// ```
+/// use promisebook::u32s;
+/// assert_eq!(u32s::leading_zeros(80), 25);
+/// assert_eq!(u32s::leading_zeros(247), 24);
+/// assert_eq!(u32s::leading_zeros(0), 32);
+/// assert_eq!(u32s::leading_zeros(4294967295), 0);
+/// ```
+#[inline]
+#[must_use]
+pub fn leading_zeros(i: u32) -> u32 {
+    exported::pb_u32_leading_zeros(i)
+}
+
+/// How many bits of `i` are 1 from the highest on, up to the first 0; 32 where all are.
+///
+/// ```
+/// use promisebook::u32s;
+/// assert_eq!(u32s::leading_ones(80), 0);
+/// assert_eq!(u32s::leading_ones(247), 0);
+/// assert_eq!(u32s::leading_ones(0), 0);
+/// assert_eq!(u32s::leading_ones(4294967295), 32);
+/// ```
+#[inline]
+#[must_use]
+pub fn leading_ones(i: u32) -> u32 {
+    exported::pb_u32_leading_ones(i)
+}
+
+/// How many bits of `i` are 0 from the lowest on, up to the first 1; 32 where all are.
+///
+/// ```
+/// use promisebook::u32s;
+/// assert_eq!(u32s::trailing_zeros(80), 4);
+/// assert_eq!(u32s::trailing_zeros(247), 0);
+/// assert_eq!(u32s::trailing_zeros(0), 32);
+/// assert_eq!(u32s::trailing_zeros(4294967295), 0);
+/// ```
+#[inline]
+#[must_use]
+pub fn trailing_zeros(i: u32) -> u32 {
+    exported::pb_u32_trailing_zeros(i)
+}
+
+/// How many bits of `i` are 1 from the lowest on, up to the first 0; 32 where all are.
+///
+/// ```
+/// use promisebook::u32s;
+/// assert_eq!(u32s::trailing_ones(80), 0);
+/// assert_eq!(u32s::trailing_ones(247), 3);
+/// assert_eq!(u32s::trailing_ones(0), 0);
+/// assert_eq!(u32s::trailing_ones(4294967295), 32);
+/// ```
+#[inline]
+#[must_use]
+pub fn trailing_ones(i: u32) -> u32 {
+    exported::pb_u32_trailing_ones(i)
+}

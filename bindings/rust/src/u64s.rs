@@ -1,0 +1,493 @@
+//! Operations on u64, the unsigned numbers of 64 bits: 0 to 18446744073709551615.
+
+use crate::exported;
+use crate::ordering;
+use core::cmp::Ordering;
+
+/// The sum `x + y`, wrapped: the unsigned number of 64 bits that differs from it by a multiple of 2^64.
+///
+/// ```
+/// use promisebook::u64s;
+/// assert_eq!(u64s::wrapping_add(18446744073709551560, 100), 44);
+/// assert_eq!(u64s::wrapping_add(18446744073709551460, 100), 18446744073709551560);
+/// ```
+#[inline]
+#[must_use]
+pub fn wrapping_add(x: u64, y: u64) -> u64 {
+    exported::pb_u64_wrapping_add(x, y)
+}
+
+/// The sum `x + y`, wrapped: the unsigned number of 64 bits that differs from it by a multiple of 2^64.
+///
+/// ```
+/// use promisebook::u64s;
+/// assert_eq!(u64s::wrapping_add_signed(3, -5), 18446744073709551614);
+/// assert_eq!(u64s::wrapping_add_signed(18446744073709551560, -100), 18446744073709551460);
+/// assert_eq!(u64s::wrapping_add_signed(18446744073709551560, 100), 44);
+/// ```
+#[inline]
+#[must_use]
+pub fn wrapping_add_signed(x: u64, y: i64) -> u64 {
+    exported::pb_u64_wrapping_add_signed(x, y)
+}
+
+/// The difference `x - y`, wrapped: the unsigned number of 64 bits that differs from it by a multiple of 2^64.
+///
+/// ```
+/// use promisebook::u64s;
+/// assert_eq!(u64s::wrapping_sub(3, 5), 18446744073709551614);
+/// assert_eq!(u64s::wrapping_sub(5, 3), 2);
+/// ```
+#[inline]
+#[must_use]
+pub fn wrapping_sub(x: u64, y: u64) -> u64 {
+    exported::pb_u64_wrapping_sub(x, y)
+}
+
+/// The product `x * y`, wrapped: the unsigned number of 64 bits that differs from it by a multiple of 2^64.
+///
+/// ```
+/// use promisebook::u64s;
+/// assert_eq!(u64s::wrapping_mul(4294967296, 4294967297), 4294967296);
+/// assert_eq!(u64s::wrapping_mul(4294967295, 4294967297), 18446744073709551615);
+/// assert_eq!(u64s::wrapping_mul(4294967295, 4294967295), 18446744065119617025);
+/// ```
+#[inline]
+#[must_use]
+pub fn wrapping_mul(x: u64, y: u64) -> u64 {
+    exported::pb_u64_wrapping_mul(x, y)
+}
+
+/// `x` shifted to the left by `rhs` modulo 64: zeros come in, and what leaves the 64 bits is lost.
+///
+/// ```
+/// use promisebook::u64s;
+/// assert_eq!(u64s::wrapping_shl(1, 65), 2);
+/// assert_eq!(u64s::wrapping_shl(3, 63), 9223372036854775808);
+/// ```
+#[inline]
+#[must_use]
+pub fn wrapping_shl(x: u64, rhs: u32) -> u64 {
+    exported::pb_u64_wrapping_shl(x, rhs)
+}
+
+/// `x` shifted to the right by `rhs` modulo 64: zeros come in.
+///
+/// ```
+/// use promisebook::u64s;
+/// assert_eq!(u64s::wrapping_shr(9223372036854775808, 127), 1);
+/// ```
+#[inline]
+#[must_use]
+pub fn wrapping_shr(x: u64, rhs: u32) -> u64 {
+    exported::pb_u64_wrapping_shr(x, rhs)
+}
+
+/// The sum `x + y`. Refused where it is not from 0 to 18446744073709551615.
+///
+/// ```
+/// use promisebook::u64s;
+/// assert_eq!(u64s::checked_add(18446744073709551560, 100), None);
+/// assert_eq!(u64s::checked_add(18446744073709551460, 100), Some(18446744073709551560));
+/// ```
+#[inline]
+#[must_use]
+pub fn checked_add(x: u64, y: u64) -> Option<u64> {
+    let answer = exported::pb_u64_checked_add(x, y);
+    answer.ok.then_some(answer.value)
+}
+
+/// The sum `x + y`. Refused where it is not from 0 to 18446744073709551615.
+///
+/// ```
+/// use promisebook::u64s;
+/// assert_eq!(u64s::checked_add_signed(3, -5), None);
+/// assert_eq!(u64s::checked_add_signed(18446744073709551560, -100), Some(18446744073709551460));
+/// assert_eq!(u64s::checked_add_signed(18446744073709551560, 100), None);
+/// ```
+#[inline]
+#[must_use]
+pub fn checked_add_signed(x: u64, y: i64) -> Option<u64> {
+    let answer = exported::pb_u64_checked_add_signed(x, y);
+    answer.ok.then_some(answer.value)
+}
+
+/// The difference `x - y`. Refused where it is not from 0 to 18446744073709551615.
+///
+/// ```
+/// use promisebook::u64s;
+/// assert_eq!(u64s::checked_sub(3, 5), None);
+/// assert_eq!(u64s::checked_sub(5, 3), Some(2));
+/// ```
+#[inline]
+#[must_use]
+pub fn checked_sub(x: u64, y: u64) -> Option<u64> {
+    let answer = exported::pb_u64_checked_sub(x, y);
+    answer.ok.then_some(answer.value)
+}
+
+/// The product `x * y`. Refused where it is not from 0 to 18446744073709551615.
+///
+/// ```
+/// use promisebook::u64s;
+/// assert_eq!(u64s::checked_mul(4294967296, 4294967297), None);
+/// assert_eq!(u64s::checked_mul(4294967295, 4294967297), Some(18446744073709551615));
+/// assert_eq!(u64s::checked_mul(4294967295, 4294967295), Some(18446744065119617025));
+/// ```
+#[inline]
+#[must_use]
+pub fn checked_mul(x: u64, y: u64) -> Option<u64> {
+    let answer = exported::pb_u64_checked_mul(x, y);
+    answer.ok.then_some(answer.value)
+}
+
+/// The smallest multiple of `y` that is at least `x`. Refused where `y` is 0 or the multiple is above
+/// 18446744073709551615.
+///
+/// ```
+/// use promisebook::u64s;
+/// assert_eq!(u64s::checked_next_multiple_of(18446744073709551610, 7), Some(18446744073709551614));
+/// assert_eq!(u64s::checked_next_multiple_of(18446744073709551610, 16), None);
+/// assert_eq!(u64s::checked_next_multiple_of(7, 0), None);
+/// ```
+#[inline]
+#[must_use]
+pub fn checked_next_multiple_of(x: u64, y: u64) -> Option<u64> {
+    let answer = exported::pb_u64_checked_next_multiple_of(x, y);
+    answer.ok.then_some(answer.value)
+}
+
+/// The quotient of `x` by `y`, rounded towards zero. Refused where `y` is 0.
+///
+/// ```
+/// use promisebook::u64s;
+/// assert_eq!(u64s::checked_div(7, 3), Some(2));
+/// assert_eq!(u64s::checked_div(18446744073709551615, 10), Some(1844674407370955161));
+/// assert_eq!(u64s::checked_div(7, 0), None);
+/// ```
+#[inline]
+#[must_use]
+pub fn checked_div(x: u64, y: u64) -> Option<u64> {
+    let answer = exported::pb_u64_checked_div(x, y);
+    answer.ok.then_some(answer.value)
+}
+
+/// The quotient of `x` by `y` whose remainder is not negative. Refused where `y` is 0.
+///
+/// ```
+/// use promisebook::u64s;
+/// assert_eq!(u64s::checked_div_euclid(7, 3), Some(2));
+/// assert_eq!(u64s::checked_div_euclid(18446744073709551615, 10), Some(1844674407370955161));
+/// assert_eq!(u64s::checked_div_euclid(7, 0), None);
+/// ```
+#[inline]
+#[must_use]
+pub fn checked_div_euclid(x: u64, y: u64) -> Option<u64> {
+    let answer = exported::pb_u64_checked_div_euclid(x, y);
+    answer.ok.then_some(answer.value)
+}
+
+/// The remainder of `x` by `y`. Refused where `y` is 0.
+///
+/// ```
+/// use promisebook::u64s;
+/// assert_eq!(u64s::checked_rem(7, 3), Some(1));
+/// assert_eq!(u64s::checked_rem(18446744073709551615, 10), Some(5));
+/// assert_eq!(u64s::checked_rem(7, 0), None);
+/// ```
+#[inline]
+#[must_use]
+pub fn checked_rem(x: u64, y: u64) -> Option<u64> {
+    let answer = exported::pb_u64_checked_rem(x, y);
+    answer.ok.then_some(answer.value)
+}
+
+/// The remainder of `x` by `y` that is not negative. Refused where `y` is 0.
+///
+/// ```
+/// use promisebook::u64s;
+/// assert_eq!(u64s::checked_rem_euclid(7, 3), Some(1));
+/// assert_eq!(u64s::checked_rem_euclid(18446744073709551615, 10), Some(5));
+/// assert_eq!(u64s::checked_rem_euclid(7, 0), None);
+/// ```
+#[inline]
+#[must_use]
+pub fn checked_rem_euclid(x: u64, y: u64) -> Option<u64> {
+    let answer = exported::pb_u64_checked_rem_euclid(x, y);
+    answer.ok.then_some(answer.value)
+}
+
+/// The sum `x + y`, or 18446744073709551615 where it is larger.
+///
+/// ```
+/// use promisebook::u64s;
+/// assert_eq!(u64s::saturating_add(18446744073709551560, 100), 18446744073709551615);
+/// assert_eq!(u64s::saturating_add(18446744073709551460, 100), 18446744073709551560);
+/// ```
+#[inline]
+#[must_use]
+pub fn saturating_add(x: u64, y: u64) -> u64 {
+    exported::pb_u64_saturating_add(x, y)
+}
+
+/// The difference `x - y`, or 0 where it is below that.
+///
+/// ```
+/// use promisebook::u64s;
+/// assert_eq!(u64s::saturating_sub(3, 5), 0);
+/// assert_eq!(u64s::saturating_sub(5, 3), 2);
+/// ```
+#[inline]
+#[must_use]
+pub fn saturating_sub(x: u64, y: u64) -> u64 {
+    exported::pb_u64_saturating_sub(x, y)
+}
+
+/// The product `x * y`, or 18446744073709551615 where it is larger.
+///
+/// ```
+/// use promisebook::u64s;
+/// assert_eq!(u64s::saturating_mul(4294967296, 4294967297), 18446744073709551615);
+/// assert_eq!(u64s::saturating_mul(4294967295, 4294967297), 18446744073709551615);
+/// assert_eq!(u64s::saturating_mul(4294967295, 4294967295), 18446744065119617025);
+/// ```
+#[inline]
+#[must_use]
+pub fn saturating_mul(x: u64, y: u64) -> u64 {
+    exported::pb_u64_saturating_mul(x, y)
+}
+
+/// Whether `x` is a multiple of `y`; of 0 only 0 is.
+///
+/// ```
+/// use promisebook::u64s;
+/// assert!(u64s::is_multiple_of(252, 7));
+/// assert!(!u64s::is_multiple_of(250, 7));
+/// assert!(u64s::is_multiple_of(0, 0));
+/// assert!(!u64s::is_multiple_of(7, 0));
+/// ```
+#[inline]
+#[must_use]
+pub fn is_multiple_of(x: u64, y: u64) -> bool {
+    exported::pb_u64_is_multiple_of(x, y)
+}
+
+/// `x` itself.
+///
+/// ```
+/// use promisebook::u64s;
+/// assert_eq!(u64s::clone(18446744073709551615), 18446744073709551615);
+/// assert_eq!(u64s::clone(0), 0);
+/// ```
+#[inline]
+#[must_use]
+pub fn clone(x: u64) -> u64 {
+    exported::pb_u64_clone(x)
+}
+
+/// Whether `x` and `y` are equal.
+///
+/// ```
+/// use promisebook::u64s;
+/// assert!(!u64s::eq(3, 5));
+/// assert!(u64s::eq(5, 5));
+/// assert!(!u64s::eq(18446744073709551615, 0));
+/// ```
+#[inline]
+#[must_use]
+pub fn eq(x: u64, y: u64) -> bool {
+    exported::pb_u64_eq(x, y)
+}
+
+/// Whether `x` and `y` differ.
+///
+/// ```
+/// use promisebook::u64s;
+/// assert!(u64s::ne(3, 5));
+/// assert!(!u64s::ne(5, 5));
+/// assert!(u64s::ne(18446744073709551615, 0));
+/// ```
+#[inline]
+#[must_use]
+pub fn ne(x: u64, y: u64) -> bool {
+    exported::pb_u64_ne(x, y)
+}
+
+/// Whether `x` is less than `y`.
+///
+/// ```
+/// use promisebook::u64s;
+/// assert!(u64s::lt(3, 5));
+/// assert!(!u64s::lt(5, 5));
+/// assert!(!u64s::lt(18446744073709551615, 0));
+/// ```
+#[inline]
+#[must_use]
+pub fn lt(x: u64, y: u64) -> bool {
+    exported::pb_u64_lt(x, y)
+}
+
+/// Whether `x` is less than `y` or equal to it.
+///
+/// ```
+/// use promisebook::u64s;
+/// assert!(u64s::le(3, 5));
+/// assert!(u64s::le(5, 5));
+/// assert!(!u64s::le(18446744073709551615, 0));
+/// ```
+#[inline]
+#[must_use]
+pub fn le(x: u64, y: u64) -> bool {
+    exported::pb_u64_le(x, y)
+}
+
+/// Whether `x` is greater than `y`.
+///
+/// ```
+/// use promisebook::u64s;
+/// assert!(!u64s::gt(3, 5));
+/// assert!(!u64s::gt(5, 5));
+/// assert!(u64s::gt(18446744073709551615, 0));
+/// ```
+#[inline]
+#[must_use]
+pub fn gt(x: u64, y: u64) -> bool {
+    exported::pb_u64_gt(x, y)
+}
+
+/// Whether `x` is greater than `y` or equal to it.
+///
+/// ```
+/// use promisebook::u64s;
+/// assert!(!u64s::ge(3, 5));
+/// assert!(u64s::ge(5, 5));
+/// assert!(u64s::ge(18446744073709551615, 0));
+/// ```
+#[inline]
+#[must_use]
+pub fn ge(x: u64, y: u64) -> bool {
+    exported::pb_u64_ge(x, y)
+}
+
+/// How `x` stands to `y`: less (-1), equal (0) or greater (1).
+///
+/// ```
+/// use core::cmp::Ordering;
+/// use promisebook::u64s;
+/// assert_eq!(u64s::cmp(3, 5), Ordering::Less);
+/// assert_eq!(u64s::cmp(5, 5), Ordering::Equal);
+/// assert_eq!(u64s::cmp(18446744073709551615, 0), Ordering::Greater);
+/// ```
+#[inline]
+#[must_use]
+pub fn cmp(x: u64, y: u64) -> Ordering {
+    ordering(exported::pb_u64_cmp(x, y))
+}
+
+/// How `x` stands to `y`: less (-1), equal (0) or greater (1). Never refused.
+///
+/// ```
+/// use core::cmp::Ordering;
+/// use promisebook::u64s;
+/// assert_eq!(u64s::partial_cmp(3, 5), Some(Ordering::Less));
+/// assert_eq!(u64s::partial_cmp(5, 5), Some(Ordering::Equal));
+/// assert_eq!(u64s::partial_cmp(18446744073709551615, 0), Some(Ordering::Greater));
+/// ```
+#[inline]
+#[must_use]
+pub fn partial_cmp(x: u64, y: u64) -> Option<Ordering> {
+    let answer = exported::pb_u64_partial_cmp(x, y);
+    answer.ok.then_some(ordering(answer.value))
+}
+
+/// The number whose 8 bytes are `s`, lowest first. Refused where `s` has another length.
+///
+/// ```
+/// use promisebook::u64s;
+/// assert_eq!(u64s::from_le_bytes(&[8, 7, 6, 5, 4, 3, 2, 1]), Some(72623859790382856));
+/// assert_eq!(u64s::from_le_bytes(&[7, 6, 5, 4, 3, 2, 1]), None);
+/// ```
+#[inline]
+#[must_use]
+pub fn from_le_bytes(s: &[u8]) -> Option<u64> {
+    let answer = exported::u64_from_le_bytes(s);
+    answer.ok.then_some(answer.value)
+}
+
+/// Writes the 8 bytes of `x` into `s` from the place `at` on, lowest first, and changes no other byte. Refused
+/// where they do not fit there.
+///
+/// ```
+/// use promisebook::u64s;
+/// let mut s = [0, 0, 0, 0, 0, 0, 0, 0, 0];
+/// assert_eq!(u64s::to_le_bytes(72623859790382856, &mut s, 1), Some(()));
+/// assert_eq!(s, [0, 8, 7, 6, 5, 4, 3, 2, 1]);
+/// let mut s = [0, 0, 0, 0, 0, 0, 0, 0, 0];
+/// assert_eq!(u64s::to_le_bytes(72623859790382856, &mut s, 2), None);
+/// assert_eq!(s, [0, 0, 0, 0, 0, 0, 0, 0, 0]);
+/// ```
+#[inline]
+#[must_use]
+pub fn to_le_bytes(x: u64, s: &mut [u8], at: usize) -> Option<()> {
+    exported::u64_to_le_bytes(x, s, at).then_some(())
+}
+
+/// How many bits of `i` are 0 from the highest on, up to the first 1; 64 where all are.
+///
+/// ```
+/// use promisebook::u64s;
+/// assert_eq!(u64s::leading_zeros(80), 57);
+/// assert_eq!(u64s::leading_zeros(247), 56);
+/// assert_eq!(u64s::leading_zeros(0), 64);
+/// assert_eq!(u64s::leading_zeros(18446744073709551615), 0);
+/// ```
+#[inline]
+#[must_use]
+pub fn leading_zeros(i: u64) -> u32 {
+    exported::pb_u64_leading_zeros(i)
+}
+
+/// How many bits of `i` are 1 from the highest on, up to the first 0; 64 where all are.
+///
+/// ```
+/// use promisebook::u64s;
+/// assert_eq!(u64s::leading_ones(80), 0);
+/// assert_eq!(u64s::leading_ones(247), 0);
+/// assert_eq!(u64s::leading_ones(0), 0);
+/// assert_eq!(u64s::leading_ones(18446744073709551615), 64);
+/// ```
+#[inline]
+#[must_use]
+pub fn leading_ones(i: u64) -> u32 {
+    exported::pb_u64_leading_ones(i)
+}
+
+/// How many bits of `i` are 0 from the lowest on, up to the first 1; 64 where all are.
+///
+/// ```
+/// use promisebook::u64s;
+/// assert_eq!(u64s::trailing_zeros(80), 4);
+/// assert_eq!(u64s::trailing_zeros(247), 0);
+/// assert_eq!(u64s::trailing_zeros(0), 64);
+/// assert_eq!(u64s::trailing_zeros(18446744073709551615), 0);
+/// ```
+#[inline]
+#[must_use]
+pub fn trailing_zeros(i: u64) -> u32 {
+    exported::pb_u64_trailing_zeros(i)
+}
+
+/// How many bits of `i` are 1 from the lowest on, up to the first 0; 64 where all are.
+///
+/// ```
+/// use promisebook::u64s;
+/// assert_eq!(u64s::trailing_ones(80), 0);
+/// assert_eq!(u64s::trailing_ones(247), 3);
+/// assert_eq!(u64s::trailing_ones(0), 0);
+/// assert_eq!(u64s::trailing_ones(18446744073709551615), 64);
+/// ```
+#[inline]
+#[must_use]
+pub fn trailing_ones(i: u64) -> u32 {
+    exported::pb_u64_trailing_ones(i)
+}

@@ -1,0 +1,460 @@
+//! Operations on u8, the unsigned numbers of 8 bits: 0 to 255.
+
+use crate::exported;
+use crate::ordering;
+use core::cmp::Ordering;
+
+/// The sum `x + y`, wrapped: the unsigned number of 8 bits that differs from it by a multiple of 2^8.
+///
+/// ```
+/// use promisebook::u8s;
+/// assert_eq!(u8s::wrapping_add(200, 100), 44);
+/// assert_eq!(u8s::wrapping_add(100, 100), 200);
+/// ```
+#[inline]
+#[must_use]
+pub fn wrapping_add(x: u8, y: u8) -> u8 {
+    exported::pb_u8_wrapping_add(x, y)
+}
+
+/// The sum `x + y`, wrapped: the unsigned number of 8 bits that differs from it by a multiple of 2^8.
+///
+/// ```
+/// use promisebook::u8s;
+/// assert_eq!(u8s::wrapping_add_signed(3, -5), 254);
+/// assert_eq!(u8s::wrapping_add_signed(200, -100), 100);
+/// assert_eq!(u8s::wrapping_add_signed(200, 100), 44);
+/// ```
+#[inline]
+#[must_use]
+pub fn wrapping_add_signed(x: u8, y: i8) -> u8 {
+    exported::pb_u8_wrapping_add_signed(x, y)
+}
+
+/// The difference `x - y`, wrapped: the unsigned number of 8 bits that differs from it by a multiple of 2^8.
+///
+/// ```
+/// use promisebook::u8s;
+/// assert_eq!(u8s::wrapping_sub(3, 5), 254);
+/// assert_eq!(u8s::wrapping_sub(5, 3), 2);
+/// ```
+#[inline]
+#[must_use]
+pub fn wrapping_sub(x: u8, y: u8) -> u8 {
+    exported::pb_u8_wrapping_sub(x, y)
+}
+
+/// The product `x * y`, wrapped: the unsigned number of 8 bits that differs from it by a multiple of 2^8.
+///
+/// ```
+/// use promisebook::u8s;
+/// assert_eq!(u8s::wrapping_mul(16, 17), 16);
+/// assert_eq!(u8s::wrapping_mul(15, 17), 255);
+/// assert_eq!(u8s::wrapping_mul(15, 15), 225);
+/// ```
+#[inline]
+#[must_use]
+pub fn wrapping_mul(x: u8, y: u8) -> u8 {
+    exported::pb_u8_wrapping_mul(x, y)
+}
+
+/// `x` shifted to the left by `rhs` modulo 8: zeros come in, and what leaves the 8 bits is lost.
+///
+/// ```
+/// use promisebook::u8s;
+/// assert_eq!(u8s::wrapping_shl(1, 9), 2);
+/// assert_eq!(u8s::wrapping_shl(3, 7), 128);
+/// ```
+#[inline]
+#[must_use]
+pub fn wrapping_shl(x: u8, rhs: u32) -> u8 {
+    exported::pb_u8_wrapping_shl(x, rhs)
+}
+
+/// `x` shifted to the right by `rhs` modulo 8: zeros come in.
+///
+/// ```
+/// use promisebook::u8s;
+/// assert_eq!(u8s::wrapping_shr(128, 15), 1);
+/// ```
+#[inline]
+#[must_use]
+pub fn wrapping_shr(x: u8, rhs: u32) -> u8 {
+    exported::pb_u8_wrapping_shr(x, rhs)
+}
+
+/// The sum `x + y`. Refused where it is not from 0 to 255.
+///
+/// ```
+/// use promisebook::u8s;
+/// assert_eq!(u8s::checked_add(200, 100), None);
+/// assert_eq!(u8s::checked_add(100, 100), Some(200));
+/// ```
+#[inline]
+#[must_use]
+pub fn checked_add(x: u8, y: u8) -> Option<u8> {
+    let answer = exported::pb_u8_checked_add(x, y);
+    answer.ok.then_some(answer.value)
+}
+
+/// The sum `x + y`. Refused where it is not from 0 to 255.
+///
+/// ```
+/// use promisebook::u8s;
+/// assert_eq!(u8s::checked_add_signed(3, -5), None);
+/// assert_eq!(u8s::checked_add_signed(200, -100), Some(100));
+/// assert_eq!(u8s::checked_add_signed(200, 100), None);
+/// ```
+#[inline]
+#[must_use]
+pub fn checked_add_signed(x: u8, y: i8) -> Option<u8> {
+    let answer = exported::pb_u8_checked_add_signed(x, y);
+    answer.ok.then_some(answer.value)
+}
+
+/// The difference `x - y`. Refused where it is not from 0 to 255.
+///
+/// ```
+/// use promisebook::u8s;
+/// assert_eq!(u8s::checked_sub(3, 5), None);
+/// assert_eq!(u8s::checked_sub(5, 3), Some(2));
+/// ```
+#[inline]
+#[must_use]
+pub fn checked_sub(x: u8, y: u8) -> Option<u8> {
+    let answer = exported::pb_u8_checked_sub(x, y);
+    answer.ok.then_some(answer.value)
+}
+
+/// The product `x * y`. Refused where it is not from 0 to 255.
+///
+/// ```
+/// use promisebook::u8s;
+/// assert_eq!(u8s::checked_mul(16, 17), None);
+/// assert_eq!(u8s::checked_mul(15, 17), Some(255));
+/// assert_eq!(u8s::checked_mul(15, 15), Some(225));
+/// ```
+#[inline]
+#[must_use]
+pub fn checked_mul(x: u8, y: u8) -> Option<u8> {
+    let answer = exported::pb_u8_checked_mul(x, y);
+    answer.ok.then_some(answer.value)
+}
+
+/// The smallest multiple of `y` that is at least `x`. Refused where `y` is 0 or the multiple is above 255.
+///
+/// ```
+/// use promisebook::u8s;
+/// assert_eq!(u8s::checked_next_multiple_of(250, 7), Some(252));
+/// assert_eq!(u8s::checked_next_multiple_of(250, 16), None);
+/// assert_eq!(u8s::checked_next_multiple_of(7, 0), None);
+/// ```
+#[inline]
+#[must_use]
+pub fn checked_next_multiple_of(x: u8, y: u8) -> Option<u8> {
+    let answer = exported::pb_u8_checked_next_multiple_of(x, y);
+    answer.ok.then_some(answer.value)
+}
+
+/// The quotient of `x` by `y`, rounded towards zero. Refused where `y` is 0.
+///
+/// ```
+/// use promisebook::u8s;
+/// assert_eq!(u8s::checked_div(7, 3), Some(2));
+/// assert_eq!(u8s::checked_div(255, 10), Some(25));
+/// assert_eq!(u8s::checked_div(7, 0), None);
+/// ```
+#[inline]
+#[must_use]
+pub fn checked_div(x: u8, y: u8) -> Option<u8> {
+    let answer = exported::pb_u8_checked_div(x, y);
+    answer.ok.then_some(answer.value)
+}
+
+/// The quotient of `x` by `y` whose remainder is not negative. Refused where `y` is 0.
+///
+/// ```
+/// use promisebook::u8s;
+/// assert_eq!(u8s::checked_div_euclid(7, 3), Some(2));
+/// assert_eq!(u8s::checked_div_euclid(255, 10), Some(25));
+/// assert_eq!(u8s::checked_div_euclid(7, 0), None);
+/// ```
+#[inline]
+#[must_use]
+pub fn checked_div_euclid(x: u8, y: u8) -> Option<u8> {
+    let answer = exported::pb_u8_checked_div_euclid(x, y);
+    answer.ok.then_some(answer.value)
+}
+
+/// The remainder of `x` by `y`. Refused where `y` is 0.
+///
+/// ```
+/// use promisebook::u8s;
+/// assert_eq!(u8s::checked_rem(7, 3), Some(1));
+/// assert_eq!(u8s::checked_rem(255, 10), Some(5));
+/// assert_eq!(u8s::checked_rem(7, 0), None);
+/// ```
+#[inline]
+#[must_use]
+pub fn checked_rem(x: u8, y: u8) -> Option<u8> {
+    let answer = exported::pb_u8_checked_rem(x, y);
+    answer.ok.then_some(answer.value)
+}
+
+/// The remainder of `x` by `y` that is not negative. Refused where `y` is 0.
+///
+/// ```
+/// use promisebook::u8s;
+/// assert_eq!(u8s::checked_rem_euclid(7, 3), Some(1));
+/// assert_eq!(u8s::checked_rem_euclid(255, 10), Some(5));
+/// assert_eq!(u8s::checked_rem_euclid(7, 0), None);
+/// ```
+#[inline]
+#[must_use]
+pub fn checked_rem_euclid(x: u8, y: u8) -> Option<u8> {
+    let answer = exported::pb_u8_checked_rem_euclid(x, y);
+    answer.ok.then_some(answer.value)
+}
+
+/// The sum `x + y`, or 255 where it is larger.
+///
+/// ```
+/// use promisebook::u8s;
+/// assert_eq!(u8s::saturating_add(200, 100), 255);
+/// assert_eq!(u8s::saturating_add(100, 100), 200);
+/// ```
+#[inline]
+#[must_use]
+pub fn saturating_add(x: u8, y: u8) -> u8 {
+    exported::pb_u8_saturating_add(x, y)
+}
+
+/// The difference `x - y`, or 0 where it is below that.
+///
+/// ```
+/// use promisebook::u8s;
+/// assert_eq!(u8s::saturating_sub(3, 5), 0);
+/// assert_eq!(u8s::saturating_sub(5, 3), 2);
+/// ```
+#[inline]
+#[must_use]
+pub fn saturating_sub(x: u8, y: u8) -> u8 {
+    exported::pb_u8_saturating_sub(x, y)
+}
+
+/// The product `x * y`, or 255 where it is larger.
+///
+/// ```
+/// use promisebook::u8s;
+/// assert_eq!(u8s::saturating_mul(16, 17), 255);
+/// assert_eq!(u8s::saturating_mul(15, 17), 255);
+/// assert_eq!(u8s::saturating_mul(15, 15), 225);
+/// ```
+#[inline]
+#[must_use]
+pub fn saturating_mul(x: u8, y: u8) -> u8 {
+    exported::pb_u8_saturating_mul(x, y)
+}
+
+/// Whether `x` is a multiple of `y`; of 0 only 0 is.
+///
+/// ```
+/// use promisebook::u8s;
+/// assert!(u8s::is_multiple_of(252, 7));
+/// assert!(!u8s::is_multiple_of(250, 7));
+/// assert!(u8s::is_multiple_of(0, 0));
+/// assert!(!u8s::is_multiple_of(7, 0));
+/// ```
+#[inline]
+#[must_use]
+pub fn is_multiple_of(x: u8, y: u8) -> bool {
+    exported::pb_u8_is_multiple_of(x, y)
+}
+
+/// `x` itself.
+///
+/// ```
+/// use promisebook::u8s;
+/// assert_eq!(u8s::clone(255), 255);
+/// assert_eq!(u8s::clone(0), 0);
+/// ```
+#[inline]
+#[must_use]
+pub fn clone(x: u8) -> u8 {
+    exported::pb_u8_clone(x)
+}
+
+/// Whether `x` and `y` are equal.
+///
+/// ```
+/// use promisebook::u8s;
+/// assert!(!u8s::eq(3, 5));
+/// assert!(u8s::eq(5, 5));
+/// assert!(!u8s::eq(255, 0));
+/// ```
+#[inline]
+#[must_use]
+pub fn eq(x: u8, y: u8) -> bool {
+    exported::pb_u8_eq(x, y)
+}
+
+/// Whether `x` and `y` differ.
+///
+/// ```
+/// use promisebook::u8s;
+/// assert!(u8s::ne(3, 5));
+/// assert!(!u8s::ne(5, 5));
+/// assert!(u8s::ne(255, 0));
+/// ```
+#[inline]
+#[must_use]
+pub fn ne(x: u8, y: u8) -> bool {
+    exported::pb_u8_ne(x, y)
+}
+
+/// Whether `x` is less than `y`.
+///
+/// ```
+/// use promisebook::u8s;
+/// assert!(u8s::lt(3, 5));
+/// assert!(!u8s::lt(5, 5));
+/// assert!(!u8s::lt(255, 0));
+/// ```
+#[inline]
+#[must_use]
+pub fn lt(x: u8, y: u8) -> bool {
+    exported::pb_u8_lt(x, y)
+}
+
+/// Whether `x` is less than `y` or equal to it.
+///
+/// ```
+/// use promisebook::u8s;
+/// assert!(u8s::le(3, 5));
+/// assert!(u8s::le(5, 5));
+/// assert!(!u8s::le(255, 0));
+/// ```
+#[inline]
+#[must_use]
+pub fn le(x: u8, y: u8) -> bool {
+    exported::pb_u8_le(x, y)
+}
+
+/// Whether `x` is greater than `y`.
+///
+/// ```
+/// use promisebook::u8s;
+/// assert!(!u8s::gt(3, 5));
+/// assert!(!u8s::gt(5, 5));
+/// assert!(u8s::gt(255, 0));
+/// ```
+#[inline]
+#[must_use]
+pub fn gt(x: u8, y: u8) -> bool {
+    exported::pb_u8_gt(x, y)
+}
+
+/// Whether `x` is greater than `y` or equal to it.
+///
+/// ```
+/// use promisebook::u8s;
+/// assert!(!u8s::ge(3, 5));
+/// assert!(u8s::ge(5, 5));
+/// assert!(u8s::ge(255, 0));
+/// ```
+#[inline]
+#[must_use]
+pub fn ge(x: u8, y: u8) -> bool {
+    exported::pb_u8_ge(x, y)
+}
+
+/// How `x` stands to `y`: less (-1), equal (0) or greater (1).
+///
+/// ```
+/// use core::cmp::Ordering;
+/// use promisebook::u8s;
+/// assert_eq!(u8s::cmp(3, 5), Ordering::Less);
+/// assert_eq!(u8s::cmp(5, 5), Ordering::Equal);
+/// assert_eq!(u8s::cmp(255, 0), Ordering::Greater);
+/// ```
+#[inline]
+#[must_use]
+pub fn cmp(x: u8, y: u8) -> Ordering {
+    ordering(exported::pb_u8_cmp(x, y))
+}
+
+/// How `x` stands to `y`: less (-1), equal (0) or greater (1). Never refused.
+///
+/// ```
+/// use core::cmp::Ordering;
+/// use promisebook::u8s;
+/// assert_eq!(u8s::partial_cmp(3, 5), Some(Ordering::Less));
+/// assert_eq!(u8s::partial_cmp(5, 5), Some(Ordering::Equal));
+/// assert_eq!(u8s::partial_cmp(255, 0), Some(Ordering::Greater));
+/// ```
+#[inline]
+#[must_use]
+pub fn partial_cmp(x: u8, y: u8) -> Option<Ordering> {
+    let answer = exported::pb_u8_partial_cmp(x, y);
+    answer.ok.then_some(ordering(answer.value))
+}
+
+/// How many bits of `i` are 0 from the highest on, up to the first 1; 8 where all are.
+///
+/// ```
+/// use promisebook::u8s;
+/// assert_eq!(u8s::leading_zeros(80), 1);
+/// assert_eq!(u8s::leading_zeros(247), 0);
+/// assert_eq!(u8s::leading_zeros(0), 8);
+/// assert_eq!(u8s::leading_zeros(255), 0);
+/// ```
+#[inline]
+#[must_use]
+pub fn leading_zeros(i: u8) -> u32 {
+    exported::pb_u8_leading_zeros(i)
+}
+
+/// How many bits of `i` are 1 from the highest on, up to the first 0; 8 where all are.
+///
+/// ```
+/// use promisebook::u8s;
+/// assert_eq!(u8s::leading_ones(80), 0);
+/// assert_eq!(u8s::leading_ones(247), 4);
+/// assert_eq!(u8s::leading_ones(0), 0);
+/// assert_eq!(u8s::leading_ones(255), 8);
+/// ```
+#[inline]
+#[must_use]
+pub fn leading_ones(i: u8) -> u32 {
+    exported::pb_u8_leading_ones(i)
+}
+
+/// How many bits of `i` are 0 from the lowest on, up to the first 1; 8 where all are.
+///
+/// ```
+/// use promisebook::u8s;
+/// assert_eq!(u8s::trailing_zeros(80), 4);
+/// assert_eq!(u8s::trailing_zeros(247), 0);
+/// assert_eq!(u8s::trailing_zeros(0), 8);
+/// assert_eq!(u8s::trailing_zeros(255), 0);
+/// ```
+#[inline]
+#[must_use]
+pub fn trailing_zeros(i: u8) -> u32 {
+    exported::pb_u8_trailing_zeros(i)
+}
+
+/// How many bits of `i` are 1 from the lowest on, up to the first 0; 8 where all are.
+///
+/// ```
+/// use promisebook::u8s;
+/// assert_eq!(u8s::trailing_ones(80), 0);
+/// assert_eq!(u8s::trailing_ones(247), 3);
+/// assert_eq!(u8s::trailing_ones(0), 0);
+/// assert_eq!(u8s::trailing_ones(255), 8);
+/// ```
+#[inline]
+#[must_use]
+pub fn trailing_ones(i: u8) -> u32 {
+    exported::pb_u8_trailing_ones(i)
+}

@@ -1,0 +1,127 @@
+//! Text beside the standard library's char and str: every 32-bit number that is near a scalar value, every pair of bytes, and longer texts of edge bytes, also
+//! behind the first blocks of 64 bytes.
+use promisebook::text::{self, Read, Split};
+use std::str::from_utf8;
+
+/// The ends of the classes of bytes that the forms of UTF-8 tell apart.
+const EDGES: [u8; 23] =
+    [0x00, 0x41, 0x7f, 0x80, 0x8f, 0x90, 0x9f, 0xa0, 0xbf, 0xc0, 0xc1, 0xc2, 0xdf, 0xe0, 0xe1, 0xec, 0xed, 0xee, 0xf0, 0xf3, 0xf4, 0xf5, 0xff];
+
+fn scalars() -> impl Iterator<Item = u32> {
+    (0..0x11_0100).chain([0x7fff_ffff, 0x8000_0000, u32::MAX])
+}
+
+#[test]
+fn one_scalar() {
+    for c in scalars() {
+        let theirs = char::from_u32(c);
+        assert_eq!(text::scalar_len(c), theirs.map(char::len_utf8), "{c:x}");
+        assert_eq!(text::is_white_space(c), theirs.is_some_and(char::is_whitespace), "{c:x}");
+    }
+}
+
+#[test]
+fn writing() {
+    for c in scalars().filter(|c| c % 61 == 0 || matches!(c, 0..=0x900 | 0xd7f0..=0xe010 | 0xfff0..=0x1_0010 | 0x10_fff0..)) {
+        for length in 0..7 {
+            for at in 0..8 {
+                let mut ours = [0x55; 7];
+                let mut theirs = ours;
+                let form = char::from_u32(c).map(|c| c.to_string().into_bytes());
+                let place = form.as_ref().and_then(|form| theirs[..length].get_mut(at..at + form.len()).map(|place| place.copy_from_slice(form)));
+                assert_eq!(text::write(&mut ours[..length], at, c), place.and(form.map(|form| form.len())), "{c:x} in {length} at {at}");
+                assert_eq!(ours, theirs);
+            }
+        }
+    }
+}
+
+/// The one scalar value that bytes at an end of the part are the form of, by the standard library's reading of 1 to 4 bytes.
+fn end_of(part: Option<&[u8]>, first: bool) -> Option<Read> {
+    let part = part?;
+    (1..=part.len().min(4)).find_map(|length| {
+        let bytes = if first { &part[..length] } else { &part[part.len() - length..] };
+        let mut read = from_utf8(bytes).ok()?.chars();
+        let value = read.next()? as u32;
+        read.next().is_none().then_some(Read { value, length })
+    })
+}
+
+/// All that is asked of a text, beside the standard library's answers.
+fn whole(s: &[u8]) {
+    let theirs = from_utf8(s).ok();
+    assert_eq!(text::valid(s), theirs.is_some(), "{s:x?}");
+    assert_eq!(text::is_ascii(s), s.is_ascii(), "{s:x?}");
+    assert_eq!(text::count(s), theirs.map(|t| t.chars().count()), "{s:x?}");
+}
+
+fn places(s: &[u8]) {
+    let theirs = from_utf8(s).ok();
+    for at in 0..s.len() + 2 {
+        assert_eq!(text::is_boundary(s, at), theirs.map(|t| t.is_char_boundary(at)), "{s:x?} {at}");
+        let split = theirs.and_then(|t| t.split_at_checked(at));
+        assert_eq!(text::split_at(s, at), split.map(|(left, _)| Split { middle: left.len(), end: s.len() }), "{s:x?} {at}");
+        for to in at.saturating_sub(1)..s.len() + 2 {
+            assert_eq!(text::read_first(s, at, to), end_of(s.get(at..to), true), "{s:x?} {at} {to}");
+            assert_eq!(text::read_last(s, at, to), end_of(s.get(at..to), false), "{s:x?} {at} {to}");
+        }
+    }
+}
+
+#[test]
+fn every_form() {
+    for c in scalars().filter_map(char::from_u32) {
+        let mut bytes = [0; 4];
+        let s = c.encode_utf8(&mut bytes).as_bytes();
+        assert!(text::valid(s));
+        assert_eq!(text::read_first(s, 0, s.len()), Some(Read { value: c as u32, length: s.len() }));
+        assert_eq!(text::read_last(s, 0, s.len()), Some(Read { value: c as u32, length: s.len() }));
+    }
+}
+
+#[test]
+fn every_pair_of_bytes() {
+    whole(&[]);
+    places(&[]);
+    for pair in 0..=u16::MAX {
+        let s = pair.to_be_bytes();
+        whole(&s[1..]);
+        whole(&s);
+        places(&s);
+    }
+}
+
+#[test]
+fn four_edge_bytes() {
+    for a in EDGES {
+        for b in EDGES {
+            for c in EDGES {
+                places(&[a, b, c]);
+                for d in EDGES {
+                    whole(&[a, b, c, d]);
+                }
+            }
+        }
+    }
+}
+
+#[test]
+fn behind_blocks() {
+    for before in [57, 60, 61, 62, 63, 64, 65, 125, 127, 128, 190] {
+        for filling in ["a", "\u{e9}", "\u{20ac}", "\u{10348}"] {
+            let mut s = filling.repeat(before).into_bytes();
+            let length = s.len();
+            for a in EDGES {
+                for b in EDGES {
+                    s.truncate(length);
+                    s.extend([a, b, 0x80]);
+                    whole(&s[..length + 1]);
+                    whole(&s[..length + 2]);
+                    whole(&s);
+                    s.extend(filling.repeat(70).bytes());
+                    whole(&s);
+                }
+            }
+        }
+    }
+}

@@ -1,0 +1,68 @@
+"""bindings/c/promisebook.h: a declaration of every export, with its promise."""
+import re
+import textwrap
+
+from bindings.exports import INTEGER, SLICE, grouped
+from bindings.promised import about, about_struct, sentence
+from templates import filled_file
+
+WIDTH = 120
+
+
+def c_type(name):
+    if name == "bool":
+        return name
+    sign, width = INTEGER.fullmatch(name).groups()
+    if width == "size":
+        return {"u": "size_t", "i": "ptrdiff_t"}[sign]
+    return "%sint%s_t" % ("u" if sign == "u" else "", width)
+
+
+def struct_name(group, struct):
+    if struct.value:
+        return "pb_answer_" + struct.value
+    return "pb_%s_%s" % (group, re.sub(r"(?<!^)(?=[A-Z])", "_", struct.name).lower())
+
+
+def answer_type(export):
+    return c_type(export.answer) if isinstance(export.answer, str) else struct_name(export.group, export.answer)
+
+
+def comment(text):
+    return "/* %s */\n" % textwrap.fill(text, WIDTH - 6, subsequent_indent="   ", break_on_hyphens=False)
+
+
+def parameter(name, written):
+    match = SLICE.fullmatch(written)
+    if not match:
+        return "%s %s" % (c_type(written), name)
+    return "%s%s *%s, size_t %s_len" % ("" if match.group(1) else "const ", c_type(match.group(2)), name, name)
+
+
+def declaration(export):
+    begin, parameters = "%s %s(" % (answer_type(export), export.symbol), [parameter(*pair) for pair in export.parameters]
+    line = begin + (", ".join(parameters) or "void") + ");\n"
+    return line if len(line) <= WIDTH else begin + "\n    " + ", ".join(parameters) + ");\n"
+
+
+def structs(found):
+    made = {}
+    for export in found:
+        if isinstance(export.answer, str):
+            continue
+        name = struct_name(export.group, export.answer)
+        fields = " ".join("%s %s;" % (c_type(kind), field) for field, kind in export.answer.fields)
+        text = "typedef struct {\n    %s\n} %s;\n" % (fields.replace("; ", ";\n    "), name)
+        if not export.answer.value:
+            text = comment(about_struct(export.group, export.answer)) + text
+        if made.setdefault(name, text) != text or name in {other.symbol for other in found}:
+            raise SystemExit("%s: the name %s has two meanings in C" % (export.symbol, name))
+    return "\n".join(made.values())
+
+
+def header(found):
+    groups = []
+    for group, exported in grouped(found).items():
+        functions = "\n".join(comment(sentence(export)) + declaration(export) for export in exported)
+        groups.append("/* ---- %s\n" % comment(about(group))[3:] + functions)
+    return filled_file("bindings/promisebook.h.in", STRUCTS=structs(found), FUNCTIONS="\n".join(groups))
