@@ -15,6 +15,7 @@ import sys
 
 import questions
 import sample
+import sample_edges
 from answerers import ROOT, Fault, answers, answers_to_pieces, built, rustc_version
 
 SHOWN = 10
@@ -98,9 +99,7 @@ def wrong_answerers(wrong, asked, right):
 
 
 def write_sample(standard, asked, right):
-    pairs = list(zip(questions.lines_of(asked), right))
-    always = [question.encode("latin-1") for question in sample.always()]
-    chosen = list(dict.fromkeys(always + list(sample.chosen(*zip(*pairs)))))
+    chosen = list(dict.fromkeys([*sample_edges.questions(), *sample.chosen(questions.lines_of(asked), right)]))
     text = b"".join(question + b"\n" for question in chosen)
     sample.store(list(zip(chosen, answer_lines([standard], text, len(chosen)))))
     print("sample.txt: %d questions" % len(chosen))

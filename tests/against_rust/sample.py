@@ -1,25 +1,15 @@
 """The stored sample: questions with the standard library's answers, for where there is no rustc. A line of sample.txt is a question, a tab and the answer; bytes that are
 no printable ASCII are written as Python writes them (\\xff, \\t, \\\\)."""
-import itertools
 import os
 
-from names import ASKED_WITH, KINDS, greatest, least, may_refuse
+from names import ASKED_WITH, KINDS, may_refuse
 
 PATH = os.path.join(os.path.dirname(os.path.abspath(__file__)), "sample.txt")
 LONGEST_LINE = 600
-# of each name so many questions with a value, refused and malformed
-OF_AN_INTEGER = {"value": 4, "refused": 2, "malformed": 1}
-OF_BYTES_OR_TEXT = {"value": 24, "refused": 8, "malformed": 5}
+# of each name so many questions with a value, refused and malformed, besides those of sample_edges.py
+OF_AN_INTEGER = {"value": 2, "refused": 1, "malformed": 1}
+OF_BYTES_OR_TEXT = {"value": 6, "refused": 3, "malformed": 3}
 UNKNOWN = 200
-
-
-def always():
-    """The ends of each type crossed with each other, and what no line is."""
-    yield from ("", " ", " u8.compare 1 1", "\x00", "\xff\xfe")
-    ends = {kind: [least(kind), 0 if kind[0] == "u" else -1, 3 if kind[0] == "u" else 0, greatest(kind)] for kind in KINDS}
-    for name, asked in ASKED_WITH.items():
-        if len(asked) == 2 and "bytes" not in asked:
-            yield from ("%s %d %d" % (name, a, b) for a, b in dict.fromkeys(itertools.product(ends[asked[0]], ends[asked[1]])))
 
 
 def kind_of(answer):
