@@ -36,22 +36,11 @@ def built(name, version, *flags):
         with open(stamp, encoding="utf-8") as file:
             if file.read() == now:
                 return program
-    subprocess.run(["rustc", "--edition", "2021", "-O", *flags, "-o", program, SOURCE], check=True)
+    if subprocess.run(["rustc", "--edition", "2021", "-O", *flags, "-o", program, SOURCE], check=False).returncode != 0:
+        raise Fault("rustc does not compile %s" % SOURCE)
     with open(stamp, "w", encoding="utf-8") as file:
         file.write(now)
     return program
-
-
-def ended(command, started):
-    """Waits for a program. A Fault where it ends badly, or takes too long."""
-    try:
-        status = started.wait(SECONDS)
-    except subprocess.TimeoutExpired as error:
-        started.kill()
-        started.wait()
-        raise Fault("%s has not ended after %d s" % (command[0], SECONDS)) from error
-    if status != 0:
-        raise Fault("%s ended with status %d" % (command[0], status))
 
 
 def started(command, given, said):
@@ -61,26 +50,36 @@ def started(command, given, said):
         raise Fault("%s cannot be run: %s" % (command[0], error)) from error
 
 
+def what_was_said(command, program, said):
+    """What a program has written when it ends. A Fault where it ends badly, or takes too long."""
+    try:
+        status = program.wait(SECONDS)
+    except subprocess.TimeoutExpired as error:
+        program.kill()
+        program.wait()
+        raise Fault("%s has not ended after %d s" % (command[0], SECONDS)) from error
+    said.seek(0)
+    found = said.read()
+    if status != 0:
+        raise Fault("%s ended with status %d after %d answers" % (command[0], status, found.count(b"\n")))
+    return found
+
+
 def answers(command, questions):
-    """What a program writes when it is fed these bytes from a file."""
+    """What a program answers when it is fed these bytes from a file."""
     with tempfile.TemporaryFile() as given, tempfile.TemporaryFile() as said:
         given.write(questions)
         given.seek(0)
-        ended(command, started(command, given, said))
-        said.seek(0)
-        return said.read()
+        return what_was_said(command, started(command, given, said), said)
 
 
 def answers_to_pieces(command, pieces):
-    """What a program writes when these pieces come one by one through a pipe, cut where they are."""
-    with tempfile.TemporaryFile() as said:
-        with started(command, subprocess.PIPE, said) as program:
-            try:
-                for piece in pieces:
-                    program.stdin.write(piece)
-                program.stdin.close()
-            except BrokenPipeError as error:
-                raise Fault("%s stopped reading" % command[0]) from error
-            ended(command, program)
-        said.seek(0)
-        return said.read()
+    """What a program answers when these pieces come one by one through a pipe, cut where they are."""
+    with tempfile.TemporaryFile() as said, started(command, subprocess.PIPE, said) as program:
+        try:
+            for piece in pieces:
+                program.stdin.write(piece)
+            program.stdin.close()
+        except BrokenPipeError as error:
+            raise Fault("%s stops reading" % command[0]) from error
+        return what_was_said(command, program, said)

@@ -116,12 +116,12 @@ def small_inputs(command, standard, seed):
 
 
 def compared(chosen):
-    version = rustc_version()
-    if not os.path.exists(chosen.program) and not chosen.store:
-        raise Fault("there is no program %s" % chosen.program)
+    version, program = rustc_version(), [os.path.abspath(chosen.program)]
+    if not version and chosen.store:
+        raise Fault("the sample is written by the standard library: it needs rustc 1.90 or later")
     if not version:
         print("rustc (1.90 or later) is not at hand: only the stored sample is asked")
-        return of_sample([chosen.program], "stored sample", chosen.seed)
+        return of_sample(program, "stored sample", chosen.seed)
     standard, wrong = built("std_answers", version), built("wrong_answers", version, "--cfg", "wrong")
     asked = questions.main_input(chosen.seed, chosen.all)
     right = answer_lines([standard], asked, len(questions.lines_of(asked)))
@@ -131,9 +131,9 @@ def compared(chosen):
     print("%s, seed %d" % (version, chosen.seed))
     differing = of_sample([standard], "stored sample, asked of the standard library", chosen.seed)
     wrong_answerers(wrong, asked, right)
-    differing += of_sample([chosen.program], "stored sample", chosen.seed)
-    differing += report("all names", len(right), differences([chosen.program], asked, right))
-    return differing + small_inputs([chosen.program], standard, chosen.seed)
+    differing += of_sample(program, "stored sample", chosen.seed)
+    differing += report("all names", len(right), differences(program, asked, right))
+    return differing + small_inputs(program, standard, chosen.seed)
 
 
 def main():
