@@ -27,20 +27,23 @@ def shortened(line):
     return text if len(text) <= WIDEST else "%s... (%d bytes)" % (text[:WIDEST], len(line))
 
 
-def answer_lines(command, asked, expected, pieces=None):
+def answer_lines(command, asked, pieces=None):
+    """A program's answers as one text, which has a line for each question."""
     said = answers_to_pieces(command, pieces) if pieces else answers(command, asked)
-    lines = said.split(b"\n")
-    if lines.pop():
+    expected = questions.count_of(asked)
+    if said and not said.endswith(b"\n"):
         raise Fault("%s does not end its last line" % command[0])
-    if len(lines) != expected:
-        raise Fault("%s gave %d answers to %d questions" % (command[0], len(lines), expected))
-    return lines
+    if said.count(b"\n") != expected:
+        raise Fault("%s gave %d answers to %d questions" % (command[0], said.count(b"\n"), expected))
+    return said
 
 
 def differences(command, asked, right, pieces=None):
     """The questions to which a program gives another answer than `right` has, with both answers."""
-    ours = answer_lines(command, asked, len(right), pieces)
-    return [] if ours == right else [entry for entry in zip(questions.lines_of(asked), ours, right) if entry[1] != entry[2]]
+    ours = answer_lines(command, asked, pieces)
+    if ours == right:
+        return []
+    return [entry for entry in zip(*map(questions.lines_of, (asked, ours, right))) if entry[1] != entry[2]]
 
 
 def report(what, count, differing):
@@ -52,8 +55,7 @@ def report(what, count, differing):
 
 def stored_sample():
     """The stored questions as one input, and the stored answers."""
-    pairs = sample.stored()
-    return b"".join(question + b"\n" for question, _ in pairs), [answer for _, answer in pairs]
+    return tuple(b"".join(line + b"\n" for line in lines) for lines in zip(*sample.stored()))
 
 
 def cut(text, seed):
@@ -69,7 +71,7 @@ def cut(text, seed):
 def of_sample(command, what, seed):
     asked, right = stored_sample()
     differing = differences(command, asked, right) or differences(command, asked, right, cut(asked, seed))
-    return report(what, len(right), differing)
+    return report(what, questions.count_of(asked), differing)
 
 
 def is_found_out(command, asked, right):
@@ -99,9 +101,9 @@ def wrong_answerers(wrong, asked, right):
 
 
 def write_sample(standard, asked, right):
-    chosen = list(dict.fromkeys([*sample_edges.questions(), *sample.chosen(questions.lines_of(asked), right)]))
+    chosen = list(dict.fromkeys([*sample_edges.questions(), *sample.chosen(questions.lines_of(asked), questions.lines_of(right))]))
     text = b"".join(question + b"\n" for question in chosen)
-    sample.store(list(zip(chosen, answer_lines([standard], text, len(chosen)))))
+    sample.store(list(zip(chosen, questions.lines_of(answer_lines([standard], text)))))
     print("sample.txt: %d questions" % len(chosen))
 
 
@@ -109,9 +111,8 @@ def small_inputs(command, standard, seed):
     count, differing = 0, []
     inputs = list(questions.small_inputs(seed))
     for asked in inputs:
-        right = answer_lines([standard], asked, len(questions.lines_of(asked)))
-        differing += differences(command, asked, right)
-        count += len(right)
+        differing += differences(command, asked, answer_lines([standard], asked))
+        count += questions.count_of(asked)
     return report("%d small inputs" % len(inputs), count, differing)
 
 
@@ -124,7 +125,7 @@ def compared(chosen):
         return of_sample(program, "stored sample", chosen.seed)
     standard, wrong = built("std_answers", version), built("wrong_answers", version, "--cfg", "wrong")
     asked = questions.main_input(chosen.seed, chosen.all)
-    right = answer_lines([standard], asked, len(questions.lines_of(asked)))
+    right = answer_lines([standard], asked)
     if chosen.store:
         write_sample(standard, asked, right)
         return 0
@@ -132,7 +133,7 @@ def compared(chosen):
     differing = of_sample([standard], "stored sample, asked of the standard library", chosen.seed)
     wrong_answerers(wrong, asked, right)
     differing += of_sample(program, "stored sample", chosen.seed)
-    differing += report("all names", len(right), differences(program, asked, right))
+    differing += report("all names", questions.count_of(asked), differences(program, asked, right))
     return differing + small_inputs(program, standard, chosen.seed)
 
 

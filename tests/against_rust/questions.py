@@ -73,9 +73,13 @@ def small_inputs(seed):
 
 
 def lines_of(text):
-    """The questions of an input: what stands behind the last newline is one, if it is not empty."""
+    """The lines of an input: what stands behind the last newline is one, if it is not empty."""
     lines = text.split(b"\n")
     return lines if lines[-1] else lines[:-1]
+
+
+def count_of(text):
+    return text.count(b"\n") + (not text.endswith(b"\n") and text != b"")
 
 
 def main():
