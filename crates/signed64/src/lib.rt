@@ -142,7 +142,7 @@ pub fn checked_sub_unsigned(a: i64, b: u64) -> Checked
     }
 }
 
-// ---- checked products: by sign and magnitude
+// ---- sign and magnitude
 
 pub fn magnitude(a: i64) -> u64
     ensures { λ r. ⌜ r ≡ natAbs a ⌝ }
@@ -178,17 +178,33 @@ pub fn with_sign(negative: bool, magnitude: u64) -> Checked
     }
 }
 
+// ---- checked products: told by dividing again, which becomes the overflow flag
+
 pub fn checked_mul(a: i64, b: i64) -> Checked
     ensures { λ r. ⌜ Answers (r .ok) (r .value) (refuse (signed 64) (a *ℤ b)) ⌝ }
 {
-    let product = unsigned64::checked_mul(magnitude(a), magnitude(b));
-    if product.ok {
-        with_sign((a < 0) != (b < 0), product.value)
-    } else {
-        Checked {
+    if a == 0 {
+        return Checked {
+            ok: true,
+            value: 0,
+        };
+    }
+    let product = wrapping_mul(a, b);
+    if !divides(product, a) {
+        return Checked {
             ok: false,
             value: 0,
-        }
+        };
+    }
+    if product / a == b {
+        return Checked {
+            ok: true,
+            value: product,
+        };
+    }
+    Checked {
+        ok: false,
+        value: 0,
     }
 }
 

@@ -26,7 +26,7 @@ use Rattle.theory_machine.proofs.Bits.{some-bits, half, halves, in-sign
 
 -- ---- whether a quotient has a value, by the bits of the divisor
 
-zero-bits : (w : Width) {b : ℤ} → SFits w b → ofZ w b ≡ 0 → b ≡ pos 0
+pub zero-bits : (w : Width) {b : ℤ} → SFits w b → ofZ w b ≡ 0 → b ≡ pos 0
 zero-bits w {b} g e = to b g e
   where
     to : (b : ℤ) → SFits w b → ofZ w b ≡ 0 → b ≡ pos 0
@@ -40,7 +40,7 @@ ones-bits w {b} g e = to b g e
     to (pos n) g e = let none : ⊥ = omega (arith, halves w, g .sfits) in absurd none
     to (negsuc n) g e = let z : n ≡ 0 = omega (arith, halves w, g .sfits) in ap negsuc z
 
-not-zero-bits : (w : Width) (b : ℤ) → (ofZ w b ≡ 0 → ⊥) → isZero b ≡ false
+pub not-zero-bits : (w : Width) (b : ℤ) → (ofZ w b ≡ 0 → ⊥) → isZero b ≡ false
 not-zero-bits w (pos b) n = ne-eqb b 0 n
 not-zero-bits w (negsuc b) n = refl
 

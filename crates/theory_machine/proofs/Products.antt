@@ -1,22 +1,26 @@
--- A checked product as signed code makes it: the unsigned product of the magnitudes, with the sign put back.
-use mathlib.Core.Path.{_≡_, refl, sym, ap, _∙_, subst}
-use mathlib.Core.Bool.{Bool, true, false, not, cond, Bool·beq}
-use Prim.Native.Nat.{ℕ, _+_, _*_, _^_, _≤_, _<_}
+-- Checked products as signed code makes them: what a product wraps to, told by dividing it again; and a number from its sign and magnitude.
+use mathlib.Core.Path.{_≡_, refl, sym, ap, _∙_}
+use mathlib.Core.Bool.{Bool, true, false, not, cond, _&&_}
+use Prim.Native.Nat.{ℕ, zero, suc, _+_, _*_, _^_, _≤_, _<_}
+use native.Mathlib.Nat.{zero-mul}
 use native.Mathlib.Omega.{arith}
 use lib.Pow.{pow-pos}
 use lib.IntN.{ℤ, pos, negsuc, negℤ, natAbs, _-ℤ_, _*ℤ_, +ℤ-idl}
-use lib.Signed.{ltZ}
+use lib.Signed.{quotZ}
 use mir.Syntax.{Width}
 use mir.Val.{bits, hbits, SFits, toZ, ofZ}
 use mir.Facts.{toZ-ofZ, toZ-pos}
-use borrow.Author.Tests.{le-ltb}
 use Rattle.theory_whole.specs.Kind.{Kind, unsigned, signed}
-use Rattle.theory_whole.specs.Fit.{wrap, refuse, Answers}
+use Rattle.theory_whole.specs.Division.{isZero}
+use Rattle.theory_whole.specs.Fit.{fits, wrap, refuse, Answers}
+use Rattle.theory_whole.proofs.Cases.{never}
 use Rattle.theory_whole.proofs.Halves.{up-neg, down-neg}
-use Rattle.theory_whole.proofs.Fits.{In, Out, under, over, real-unsigned, real-signed}
-use Rattle.theory_whole.proofs.Wrap.{wrap-same, wrap-again}
-use Rattle.theory_whole.proofs.Refuse.{accepts, refuses, accepted, declined}
-use Rattle.theory_machine.proofs.Bits.{half, halves, read-back}
+use Rattle.theory_whole.proofs.Fits.{In, under, over, real-unsigned, real-signed, in-fits}
+use Rattle.theory_whole.proofs.Wrap.{wrap-in, wrap-same, wrap-again}
+use Rattle.theory_whole.proofs.Refuse.{accepts, refuses}
+use Rattle.theory_whole.proofs.ByQuotient.{quotient-is-factor, quotient-is-other}
+use Rattle.theory_machine.proofs.Bits.{half, halves, in-signed, signed-fits, read-back}
+use Rattle.theory_machine.proofs.Divisions.{Divisible, divisible, zero-bits, not-zero-bits}
 
 -- the number with this sign and magnitude
 abbrev pub with-sign : Bool → ℕ → ℤ
@@ -52,39 +56,58 @@ module _ (w : Width) where
         let s : r ≡ wrap S (negℤ (pos m)) = rw (← +ℤ-idl (negℤ (pos m))) (wrap-again (real-signed (bits w)) (real-unsigned (bits w)) refl (pos 0 -ℤ pos m) p q) in
         rw e (accepts (real-signed (bits w)) (negℤ (pos m)) (toZ w (ofZ w r)) i (read-back w (pos x) q ∙ s ∙ sym (wrap-same (real-signed (bits w)) (negℤ (pos m)) i)))
 
-natural-sign : (a : ℕ) → ltZ (pos a) (pos 0) ≡ false
-natural-sign a = le-ltb a 0 (omega arith)
+-- ---- a product that is told by dividing it again: p is what it wraps to, t whether p by a has a value
 
--- a product is the product of the magnitudes, negative where one factor is
-signs : (a b : ℤ) → with-sign (not (Bool·beq (ltZ a (pos 0)) (ltZ b (pos 0)))) (natAbs a * natAbs b) ≡ a *ℤ b
-signs (pos a) (pos b) = rw (natural-sign a, natural-sign b)
-signs (pos a) (negsuc b) = rw (natural-sign a)
-signs (negsuc a) (pos b) = rw (natural-sign b)
-signs (negsuc a) (negsuc b) = refl
+zero-product : (a b : ℤ) → a ≡ pos 0 → a *ℤ b ≡ pos 0
+zero-product a (pos b) e = rw (e, zero-mul)
+zero-product a (negsuc b) e = rw (e, zero-mul)
 
--- x and y are the magnitudes of a and of b, `ok` and v the checked product of these
-module _ (w : Width) {a b : ℤ} {x y : ℕ} (ok : Bool) (v : ℕ) (f : SFits w a) (g : SFits w b) (p : x ≡ natAbs (toZ w (ofZ w a))) (q : y ≡ natAbs (toZ w (ofZ w b))) (s : Answers ok (pos v) (refuse (unsigned (bits w)) (pos x *ℤ pos y))) where
-  magnitudes : x * y ≡ natAbs a * natAbs b
-  magnitudes = rw (p, q, toZ-ofZ f, toZ-ofZ g)
+not-zero-magnitude : (a : ℤ) → isZero a ≡ false → 0 < natAbs a
+not-zero-magnitude (pos zero) e = never refl e
+not-zero-magnitude (pos (suc a)) e = omega arith
+not-zero-magnitude (negsuc a) e = omega arith
 
-  pub product-answers : (r : Bool) (z : ℤ) → ok ≡ true → Answers r z (refuse (signed (bits w)) (with-sign (not (Bool·beq (ltZ (toZ w (ofZ w a)) (pos 0)) (ltZ (toZ w (ofZ w b)) (pos 0)))) v)) → Answers r z (refuse (signed (bits w)) (a *ℤ b))
-  product-answers r z e u =
-      let i : v ≡ x * y = ap natAbs (accepted (real-unsigned (bits w)) ok (pos v) (pos (x * y)) s e .1) in
-      let j : with-sign (not (Bool·beq (ltZ (toZ w (ofZ w a)) (pos 0)) (ltZ (toZ w (ofZ w b)) (pos 0)))) v ≡ a *ℤ b = rw (i, magnitudes, toZ-ofZ f, toZ-ofZ g) (signs a b) in
-      rw j at u
+module _ (w : Width) {a b : ℤ} (f : SFits w a) (g : SFits w b) where
+  pub by-zero : ofZ w a ≡ 0 → Answers true (pos 0) (refuse (signed (bits w)) (a *ℤ b))
+  by-zero e =
+      accepts (real-signed (bits w)) (a *ℤ b) (pos 0) (rw (zero-product a b (zero-bits w f e)) (record { above = omega arith; below = omega (arith, half w, halves w, pow-pos (hbits w)) }))
+      (sym (zero-product a b (zero-bits w f e)))
 
-  pub product-refused : ok ≡ false → Answers false (pos 0) (refuse (signed (bits w)) (a *ℤ b))
-  product-refused e =
-      let m : 2 ^ bits w ≤ natAbs a * natAbs b = rw (← magnitudes) (large (declined (real-unsigned (bits w)) ok (pos v) (pos (x * y)) s e)) in
-      refuses (real-signed (bits w)) (a *ℤ b) (subst (Out (signed (bits w))) (signs a b) (far (not (Bool·beq (ltZ a (pos 0)) (ltZ b (pos 0)))) m))
-    where
-      large : Out (unsigned (bits w)) (pos (x * y)) → 2 ^ bits w ≤ x * y
-      large (under o) = let none : ⊥ = omega arith in absurd none
-      large (over o) = omega arith
+  module _ {p : ℤ} (e : p ≡ wrap (signed (bits w)) (toZ w (ofZ w a) *ℤ toZ w (ofZ w b))) (some : ofZ w a ≡ 0 → ⊥) where
+    wraps : p ≡ wrap (signed (bits w)) (a *ℤ b)
+    wraps = rw (toZ-ofZ f, toZ-ofZ g) at e
 
-      far : (t : Bool) {m : ℕ} → 2 ^ bits w ≤ m → Out (signed (bits w)) (with-sign t m)
-      far true {m} h =
-          let u = up-neg (pos m) in
-          let d = down-neg (pos m) in
-          under (omega (arith, half w, halves w, pow-pos (hbits w)))
-      far false h = over (omega (arith, half w, halves w))
+    product-fits : SFits w p
+    product-fits = signed-fits w (rw wraps (wrap-in (real-signed (bits w)) (a *ℤ b)))
+
+    factor : 0 < natAbs a
+    factor = not-zero-magnitude a (not-zero-bits w a some)
+
+    -- the quotient as code has it, and compares it
+    quotient-read : {q : ℤ} → SFits w q → ofZ w q ≡ ofZ w b → q ≡ b
+    quotient-read {q} h s = sym (toZ-ofZ h) ∙ ap (toZ w) s ∙ toZ-ofZ g
+
+    module _ {t : Bool} (d : t ≡ not (isZero (toZ w (ofZ w a))) && fits (signed (bits w)) (quotZ (toZ w (ofZ w p)) (toZ w (ofZ w a)))) where
+      pub divides-again : t ≡ true → Divisible w p a
+      divides-again = divisible w product-fits f d
+
+      pub product-has-no-quotient : t ≡ false → Answers false (pos 0) (refuse (signed (bits w)) (a *ℤ b))
+      product-has-no-quotient n = quotient-is-other (bits w) a b p (in-signed w f) factor wraps no-quotient
+        where
+          no-quotient : quotZ p a ≡ b → ⊥
+          no-quotient q =
+              let fit : fits (signed (bits w)) (quotZ p a) ≡ true = rw q (in-fits (real-signed (bits w)) b (in-signed w g)) in
+              let d′ : t ≡ not (isZero a) && fits (signed (bits w)) (quotZ p a) = (rw (toZ-ofZ product-fits, toZ-ofZ f) at d) in
+              never (d′ ∙ rw (not-zero-bits w a some, fit)) n
+
+    module _ (v : Divisible w p a) where
+      read : quotZ (toZ w (ofZ w p)) (toZ w (ofZ w a)) ≡ quotZ p a
+      read = rw (toZ-ofZ product-fits, toZ-ofZ f)
+
+      pub product-divides : ofZ w (quotZ (toZ w (ofZ w p)) (toZ w (ofZ w a))) ≡ ofZ w b → Answers true (toZ w (ofZ w p)) (refuse (signed (bits w)) (a *ℤ b))
+      product-divides s =
+          rw (toZ-ofZ product-fits)
+          (quotient-is-factor (bits w) a b p (in-signed w f) factor wraps (quotient-read (signed-fits w (v .quotient)) (ap (ofZ w) (sym read) ∙ s)))
+
+      pub product-divides-not : (ofZ w (quotZ (toZ w (ofZ w p)) (toZ w (ofZ w a))) ≡ ofZ w b → ⊥) → Answers false (pos 0) (refuse (signed (bits w)) (a *ℤ b))
+      product-divides-not n = quotient-is-other (bits w) a b p (in-signed w f) factor wraps (λ q. n (ap (ofZ w) (read ∙ q)))

@@ -7,6 +7,7 @@ pub mod Wrap
 pub mod Refuse
 pub mod Clamp
 pub mod Overflow
+pub mod ByQuotient
 pub mod Divisions
 pub mod Quotients
 pub mod Unsigned
