@@ -72,13 +72,13 @@ pub fn wrapping_shr(a: i32, distance: u32) -> i32
     a >> (distance % 32)
 }
 
-// ---- checked sums and differences: what it wraps to tells whether it fits
+// ---- checked sums and differences
 
-pub fn checked_add(a: i32, b: i32) -> Checked
-    ensures { λ r. ⌜ Answers (r .ok) (r .value) (refuse (signed 32) (a +ℤ b)) ⌝ }
+// A number of 64 bits as one of 32. Behind a sum or a difference of two, this test becomes the overflow flag.
+pub fn narrowed(z: i64) -> Checked
+    ensures { λ r. ⌜ Answers (r .ok) (r .value) (refuse (signed 32) z) ⌝ }
 {
-    let sum = wrapping_add(a, b);
-    if (b < 0) != (sum < a) {
+    if 4294967296 <= unsigned64::wrapping_add_signed(2147483648, z) {
         Checked {
             ok: false,
             value: 0,
@@ -86,9 +86,15 @@ pub fn checked_add(a: i32, b: i32) -> Checked
     } else {
         Checked {
             ok: true,
-            value: sum,
+            value: z as i32,
         }
     }
+}
+
+pub fn checked_add(a: i32, b: i32) -> Checked
+    ensures { λ r. ⌜ Answers (r .ok) (r .value) (refuse (signed 32) (a +ℤ b)) ⌝ }
+{
+    narrowed((a as i64) + (b as i64))
 }
 
 pub fn checked_add_unsigned(a: i32, b: u32) -> Checked
@@ -111,18 +117,7 @@ pub fn checked_add_unsigned(a: i32, b: u32) -> Checked
 pub fn checked_sub(a: i32, b: i32) -> Checked
     ensures { λ r. ⌜ Answers (r .ok) (r .value) (refuse (signed 32) (a -ℤ b)) ⌝ }
 {
-    let difference = wrapping_sub(a, b);
-    if (b < 0) != (a < difference) {
-        Checked {
-            ok: false,
-            value: 0,
-        }
-    } else {
-        Checked {
-            ok: true,
-            value: difference,
-        }
-    }
+    narrowed((a as i64) - (b as i64))
 }
 
 pub fn checked_sub_unsigned(a: i32, b: u32) -> Checked
@@ -184,10 +179,7 @@ pub fn checked_mul(a: i32, b: i32) -> Checked
     ensures { λ r. ⌜ Answers (r .ok) (r .value) (refuse (signed 32) (a *ℤ b)) ⌝ }
 {
     if a == 0 {
-        return Checked {
-            ok: true,
-            value: 0,
-        };
+        return Checked { ok: true, value: 0 };
     }
     let product = wrapping_mul(a, b);
     if !divides(product, a) {

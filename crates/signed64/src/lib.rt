@@ -72,8 +72,9 @@ pub fn wrapping_shr(a: i64, distance: u32) -> i64
     a >> (distance % 64)
 }
 
-// ---- checked sums and differences: what it wraps to tells whether it fits
+// ---- checked sums and differences
 
+// What a sum or a difference wraps to tells whether it fits.
 pub fn checked_add(a: i64, b: i64) -> Checked
     ensures { λ r. ⌜ Answers (r .ok) (r .value) (refuse (signed 64) (a +ℤ b)) ⌝ }
 {
@@ -184,10 +185,7 @@ pub fn checked_mul(a: i64, b: i64) -> Checked
     ensures { λ r. ⌜ Answers (r .ok) (r .value) (refuse (signed 64) (a *ℤ b)) ⌝ }
 {
     if a == 0 {
-        return Checked {
-            ok: true,
-            value: 0,
-        };
+        return Checked { ok: true, value: 0 };
     }
     let product = wrapping_mul(a, b);
     if !divides(product, a) {

@@ -68,13 +68,13 @@ pub fn wrapping_shr(a: i8, distance: u32) -> i8
     a >> (distance % 8)
 }
 
-// ---- checked sums and differences: what it wraps to tells whether it fits
+// ---- checked sums and differences
 
-pub fn checked_add(a: i8, b: i8) -> Checked
-    ensures { λ r. ⌜ Answers (r .ok) (r .value) (refuse (signed 8) (a +ℤ b)) ⌝ }
+// A number of 64 bits as one of 8. Behind a sum or a difference of two, this test becomes the overflow flag.
+pub fn narrowed(z: i64) -> Checked
+    ensures { λ r. ⌜ Answers (r .ok) (r .value) (refuse (signed 8) z) ⌝ }
 {
-    let sum = wrapping_add(a, b);
-    if (b < 0) != (sum < a) {
+    if 256 <= unsigned64::wrapping_add_signed(128, z) {
         Checked {
             ok: false,
             value: 0,
@@ -82,9 +82,15 @@ pub fn checked_add(a: i8, b: i8) -> Checked
     } else {
         Checked {
             ok: true,
-            value: sum,
+            value: z as i8,
         }
     }
+}
+
+pub fn checked_add(a: i8, b: i8) -> Checked
+    ensures { λ r. ⌜ Answers (r .ok) (r .value) (refuse (signed 8) (a +ℤ b)) ⌝ }
+{
+    narrowed((a as i64) + (b as i64))
 }
 
 pub fn checked_add_unsigned(a: i8, b: u8) -> Checked
@@ -107,18 +113,7 @@ pub fn checked_add_unsigned(a: i8, b: u8) -> Checked
 pub fn checked_sub(a: i8, b: i8) -> Checked
     ensures { λ r. ⌜ Answers (r .ok) (r .value) (refuse (signed 8) (a -ℤ b)) ⌝ }
 {
-    let difference = wrapping_sub(a, b);
-    if (b < 0) != (a < difference) {
-        Checked {
-            ok: false,
-            value: 0,
-        }
-    } else {
-        Checked {
-            ok: true,
-            value: difference,
-        }
-    }
+    narrowed((a as i64) - (b as i64))
 }
 
 pub fn checked_sub_unsigned(a: i8, b: u8) -> Checked
@@ -180,10 +175,7 @@ pub fn checked_mul(a: i8, b: i8) -> Checked
     ensures { λ r. ⌜ Answers (r .ok) (r .value) (refuse (signed 8) (a *ℤ b)) ⌝ }
 {
     if a == 0 {
-        return Checked {
-            ok: true,
-            value: 0,
-        };
+        return Checked { ok: true, value: 0 };
     }
     let product = wrapping_mul(a, b);
     if !divides(product, a) {

@@ -8,6 +8,7 @@ pub mod Refuse
 pub mod Clamp
 pub mod Overflow
 pub mod ByQuotient
+pub mod Narrow
 pub mod Divisions
 pub mod Quotients
 pub mod Unsigned

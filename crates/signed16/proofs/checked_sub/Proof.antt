@@ -1,14 +1,24 @@
 use borrow.Author.Needs.{needs}
 use mir.Syntax.{w16}
-use Rattle.theory_machine.proofs.Sums.{difference-told, signed-no-overflow, signed-overflow}
+use mir.Val.{bits}
+use Prim.Native.Nat.{_<_}
+use native.Mathlib.Omega.{arith}
+use Rattle.theory_machine.proofs.Narrow.{widened, wide-difference, difference-narrowed}
 use Rattle.signed16.proofs.checked_sub.Statement.{statement}
 use Rattle.signed16.proofs.checked_sub.Tie as tie
 
-returns : tie.Need-returns
-returns c = let s = c .before .before in signed-overflow w16 (difference-told w16 (s .fits .a) (s .fits .b) (c .before .wrapping-sub .ensures)) (c .if1 .taken)
+narrow : bits w16 < 64
+narrow = omega arith
 
-returns-2 : tie.Need-returns-2
-returns-2 c = let s = c .before .before in signed-no-overflow w16 (difference-told w16 (s .fits .a) (s .fits .b) (c .before .wrapping-sub .ensures)) (c .if1 .left)
+returns : tie.Need-returns
+returns c = difference-narrowed w16 narrow (c .before .fits .a) (c .before .fits .b) _ _ (c .narrowed .ensures)
 
 pub checked-sub-spec : {M : Type 1} → statement M
-checked-sub-spec = tie.close (tie.spec (λ c κs. search needs) returns returns-2)
+checked-sub-spec =
+    tie.close
+    (tie.spec
+    (λ c. widened w16 narrow (c .fits .a))
+    (λ c. widened w16 narrow (c .fits .b))
+    (λ c. wide-difference w16 narrow (c .fits .a) (c .fits .b))
+    (λ c κs. search needs)
+    returns)

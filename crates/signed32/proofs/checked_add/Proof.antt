@@ -1,14 +1,24 @@
 use borrow.Author.Needs.{needs}
 use mir.Syntax.{w32}
-use Rattle.theory_machine.proofs.Sums.{sum-told, signed-no-overflow, signed-overflow}
+use mir.Val.{bits}
+use Prim.Native.Nat.{_<_}
+use native.Mathlib.Omega.{arith}
+use Rattle.theory_machine.proofs.Narrow.{widened, wide-sum, sum-narrowed}
 use Rattle.signed32.proofs.checked_add.Statement.{statement}
 use Rattle.signed32.proofs.checked_add.Tie as tie
 
-returns : tie.Need-returns
-returns c = let s = c .before .before in signed-overflow w32 (sum-told w32 (s .fits .a) (s .fits .b) (c .before .wrapping-add .ensures)) (c .if1 .taken)
+narrow : bits w32 < 64
+narrow = omega arith
 
-returns-2 : tie.Need-returns-2
-returns-2 c = let s = c .before .before in signed-no-overflow w32 (sum-told w32 (s .fits .a) (s .fits .b) (c .before .wrapping-add .ensures)) (c .if1 .left)
+returns : tie.Need-returns
+returns c = sum-narrowed w32 narrow (c .before .fits .a) (c .before .fits .b) _ _ (c .narrowed .ensures)
 
 pub checked-add-spec : {M : Type 1} → statement M
-checked-add-spec = tie.close (tie.spec (λ c κs. search needs) returns returns-2)
+checked-add-spec =
+    tie.close
+    (tie.spec
+    (λ c. widened w32 narrow (c .fits .a))
+    (λ c. widened w32 narrow (c .fits .b))
+    (λ c. wide-sum w32 narrow (c .fits .a) (c .fits .b))
+    (λ c κs. search needs)
+    returns)
