@@ -33,6 +33,33 @@ pub fn ascii_block(s: &[u8], from: usize) -> bool
     all64(s, from)
 }
 
+fn all16(s: &[u8], from: usize) -> bool
+    requires { ⌜ from + 16 ≤ length (now s) ⌝ }
+    ensures { λ r. ⌜ (r ≡ true → AsciiIn (now (s .entry)) from (from + 16)) ⌝ }
+{
+    let end = from + 16;
+    let mut all = true;
+    let mut i = from;
+    while i < end {
+        all = all & (s[i] < 0x80);
+        i += 1;
+    }
+    all
+}
+
+// The same for 16 bytes, a quarter of a block.
+pub fn ascii_quarter(s: &[u8], from: usize) -> bool
+    ensures { λ r. ⌜ (r ≡ true → (from + 16 ≤ length (now (s .entry))) × AsciiIn (now (s .entry)) from (from + 16)) ⌝ }
+{
+    if s.len() < 16 {
+        return false;
+    }
+    if s.len() - 16 < from {
+        return false;
+    }
+    all16(s, from)
+}
+
 // The first place from `from` on where no ASCII stands, or the end.
 pub fn ascii_from(s: &[u8], from: usize) -> usize
     ensures { λ r. ⌜ AsciiRun (now (s .entry)) from r ⌝ }

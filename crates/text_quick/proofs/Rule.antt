@@ -106,6 +106,11 @@ moves-next s from i x y z l h m g e =
     let q : i - from + 1 ≡ i + 1 - from = omega arith in
     subst (λ (n : ℕ). Moves s from n x z) q (moves-join s from (i - from) 1 x y z m (subst (λ (k : ℕ). Moves s k 1 y z) (sym p) (moves-one s i y z h g e)))
 
+-- four quarters are a block
+pub moves-quarters : (s : List ℕ) (i x x1 x2 x3 y : ℕ) → Moves s i 16 x x1 → Moves s (i + 16) 16 x1 x2 → Moves s (i + 32) 16 x2 x3 → Moves s (i + 48) 16 x3 y → Moves s i 64 x y
+moves-quarters s i x x1 x2 x3 y a b c d =
+    moves-join s i 48 16 x x3 y (moves-join s i 32 16 x x2 x3 (moves-join s i 16 16 x x1 x2 a b) c) d
+
 pub moves-on : (s : List ℕ) (i n x y z : ℕ) → Moves s 0 i x y → Moves s i n y z → Moves s 0 (i + n) x z
 moves-on s i n x y z f g = moves-join s 0 i n x y z f (subst (λ (k : ℕ). Moves s k n y z) (sym (zero-add i)) g)
 

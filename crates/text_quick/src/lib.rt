@@ -1,4 +1,4 @@
-// How far text reaches, byte by byte with one table: the quick form. 64 bytes of ASCII between scalars are passed over.
+// How far text reaches, byte by byte with one table: the quick form. Blocks of ASCII between scalars, of 64 bytes or of 16, are passed over.
 ghost use mathlib.Core.Path.{_≡_};
 ghost use mathlib.Core.Bool.{cond};
 ghost use Prim.Native.Nat.{_+_, _-_, _%_, _≤_, _<_};
@@ -33,6 +33,19 @@ fn bytes(t: &[u64; 256], s: &[u8], from: usize, to: usize, x: u64) -> u64
     y
 }
 
+fn quarter(t: &[u64; 256], s: &[u8], from: usize, x: u64) -> u64
+    requires { ⌜ (now t ≡ table) × (Good x × (from + 16 ≤ length (now s))) ⌝ }
+    ensures { λ r. ⌜ Moves (now (s .entry)) from 16 x r ⌝ }
+{
+    if x % 64 == 0 {
+        if text_ascii::ascii_quarter(s, from) {
+            return 0;
+        }
+    }
+    bytes(t, s, from, from + 16, x)
+}
+
+// Where a block is not all ASCII, only the quarters that are not go byte by byte.
 fn block(t: &[u64; 256], s: &[u8], from: usize, x: u64) -> u64
     requires { ⌜ (now t ≡ table) × (Good x × (from + 64 ≤ length (now s))) ⌝ }
     ensures { λ r. ⌜ Moves (now (s .entry)) from 64 x r ⌝ }
@@ -42,7 +55,10 @@ fn block(t: &[u64; 256], s: &[u8], from: usize, x: u64) -> u64
             return 0;
         }
     }
-    bytes(t, s, from, from + 64, x)
+    let x1 = quarter(t, s, from, x);
+    let x2 = quarter(t, s, from + 16, x1);
+    let x3 = quarter(t, s, from + 32, x2);
+    quarter(t, s, from + 48, x3)
 }
 
 // The later place, where the state is between two scalars.

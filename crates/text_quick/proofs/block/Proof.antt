@@ -1,8 +1,5 @@
 use borrow.Author.Needs.{needs}
-use Prim.Native.Nat.{_+_, _-_}
-use mathlib.Core.Path.{_≡_}
-use Rattle.text_quick.proofs.Rule.{moves-ascii}
-use native.Mathlib.Omega.{arith}
+use Rattle.text_quick.proofs.Rule.{moves-ascii, moves-quarters}
 use Rattle.text_quick.proofs.block.Statement.{statement}
 use Rattle.text_quick.proofs.block.Tie as tie
 
@@ -14,9 +11,12 @@ returns c =
 
 returns-2 : tie.Need-returns-2
 returns-2 c =
-    let a = c .before .before .before .args in
-    let e : a .from + 64 - a .from ≡ 64 = omega arith in
-    rw e at (c .bytes .ensures)
+    let third = c .before in
+    let second = third .before in
+    let first = second .before in
+    moves-quarters _ _ _ _ _ _ _ (first .quarter .ensures) (second .quarter2 .ensures) (third .quarter3 .ensures) (c .quarter4 .ensures)
 
 pub block-spec : {M : Type 1} → statement M
-block-spec = tie.close (tie.spec (λ c κs. search needs) returns (λ c. search needs) (λ c κs. search needs) returns-2)
+block-spec =
+    tie.close
+    (tie.spec (λ c κs. search needs) returns (λ c κs. search needs) (λ c. search needs) (λ c κs. search needs) (λ c. search needs) (λ c κs. search needs) (λ c. search needs) (λ c κs. search needs) returns-2)
