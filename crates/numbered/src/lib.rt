@@ -217,14 +217,15 @@ pub fn run(kind: u8, operation: u8, a: u64, b: u64) -> Answer {
     }
 }
 
-fn low8(n: u64) -> u8 {
+// The lowest bits of a number.
+pub fn low8(n: u64) -> u8 {
     (n % 256) as u8
 }
 
-fn low16(n: u64) -> u16 {
+pub fn low16(n: u64) -> u16 {
     (n % 65536) as u16
 }
 
-fn low32(n: u64) -> u32 {
+pub fn low32(n: u64) -> u32 {
     (n % 4294967296) as u32
 }
