@@ -20,13 +20,12 @@ def questions():
     """The modules of crates/ask: numbers at each kind, zeros and ones at four of them, bytes at three."""
     folder = os.path.join(TEMPLATES, "ask")
     for suffix, type_suffix, bits in WIDTHS:
-        table = {**words(suffix, type_suffix, bits), "CRATE": "number_bytes" + suffix}
         for sign in SIGNS:
             code = read(os.path.join(folder, sign + ".rt.in"))
             if sign == "unsigned" and suffix == type_suffix:
                 code += read(os.path.join(folder, "zeros.rt.in"))
                 code += read(os.path.join(folder, "bytes.rt.in")) if bits > 8 else ""
-            yield os.path.join(CRATES, "ask", "src", "of_%s.rt" % type_name(sign, type_suffix)), filled(code, table)
+            yield os.path.join(CRATES, "ask", "src", "of_%s.rt" % type_name(sign, type_suffix)), filled(code, words(suffix, type_suffix, bits))
 
 
 # The order in which the program goes through the kinds and the operations.

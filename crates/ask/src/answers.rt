@@ -1,5 +1,5 @@
-// Answers, written behind those that stand in `out` before a place; each function answers the place behind what it wrote. Where there is no room it writes
-// nothing: whoever asks sees to it that there is (lines).
+// Answers, written into `out` from a place on; each function answers the place behind what it wrote. Where there is no room it writes nothing: whoever calls
+// it keeps room for an answer (lines).
 use promisebook::promises_slices;
 
 pub fn words(out: &mut [u8], at: usize, said: &[u8]) -> usize {

@@ -47,7 +47,7 @@ fn legend_of_integers() {
 fn legend_of_bytes() {
     say(b"\nb f t: bytes, and the part of them from place f up to and without place t.\n");
     say(
-        b"a, at, e, i, m, n: numbers (usize), counted from f but for at. v: a u8. c: a u32. other: bytes.\n\n",
+        b"a, at, e, i, m, n: numbers (usize); a, e, i and m are counted from f where there is one. v: a u8.\nc: a u32. other: bytes.\n\n",
     );
 }
 

@@ -1,5 +1,6 @@
 // Bytes as questions and answers have them: two lowercase hex digits a byte, and `-` alone for no bytes.
-ghost use Prim.Native.Nat.{_≤_};
+ghost use Prim.Native.Nat.{_%_};
+ghost use Rattle.ask.specs.Hex.{Spells, Digit};
 
 // How many bytes were read, or refused: then 0.
 pub struct Length {
@@ -16,7 +17,7 @@ const REFUSED: Length = Length {
 
 // The value of a digit, and 16 of any other byte.
 fn digit(b: u8) -> u8
-    ensures { λ r. ⌜ r ≤ 16 ⌝ }
+    ensures { λ r. ⌜ Digit b r ⌝ }
 {
     if b < b'0' {
         return 16;
@@ -58,13 +59,13 @@ fn spelled(s: &[u8], out: &mut [u8]) -> Length {
     if out.len() < n {
         return REFUSED;
     }
-    let done = pairs(s, out);
-    Length {
-        ok: done == n,
-        value: done,
+    if pairs(s, out) < n {
+        return REFUSED;
     }
+    Length { ok: true, value: n }
 }
 
+// No bytes.
 fn none(b: u8) -> Length {
     Length {
         ok: b == b'-',
@@ -84,7 +85,7 @@ fn pairs(s: &[u8], out: &mut [u8]) -> usize {
     i
 }
 
-// The byte at place i of those that s spells, or false.
+// The byte at place i of those that s spells, into out; false where none is spelled there.
 fn pair(s: &[u8], i: usize, out: &mut [u8]) -> bool {
     if s.len() / 2 <= i {
         return false;
@@ -106,7 +107,10 @@ fn pair(s: &[u8], i: usize, out: &mut [u8]) -> bool {
 
 // ---- writing
 
-fn figure(value: u8) -> u8 {
+// The digit of a value's lower half.
+fn figure(value: u8) -> u8
+    ensures { λ r. ⌜ Spells r (value % 16) ⌝ }
+{
     let low = value % 16;
     if low < 10 {
         b'0' + low

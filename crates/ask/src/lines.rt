@@ -14,16 +14,18 @@ struct State {
     open: bool,
 }
 
-// An answer has less than half of the room for answers: its bytes are some of its line's. So they are written out when half of it is used.
-const HALF: usize = 65536;
+// Room for the bytes that a line spells, two digits each.
+pub fn half_of_line() -> [u8; 32768] {
+    [0; 32768]
+}
 
+// Room for answers, twice what a line has: bytes in an answer take no more than its line, and any other answer has three numbers or a word.
 pub fn two_lines() -> [u8; 131072] {
     [0; 131072]
 }
 
-pub fn half_of_line() -> [u8; 32768] {
-    [0; 32768]
-}
+// Answers are written out once they take half of their room, so that the other half is left for the next one.
+const HALF: usize = 65536;
 
 pub fn answer_all() {
     let mut block = io::large_buffer();
@@ -88,12 +90,14 @@ fn finished(
     closed(out, state)
 }
 
+// The answers are written out, and nothing is left to do.
 fn closed(out: &[u8], state: State) -> State {
     let mut last = flushed(out, state);
     last.open = false;
     last
 }
 
+// Answers each line that ends in the block, and holds what is left behind the last.
 fn answered(
     block: &[u8],
     line: &mut [u8],

@@ -2,7 +2,7 @@
 use numbered::Answer;
 
 pub fn read(s: &[u8], from: usize, to: usize) -> Answer {
-    let number = decimal::read_i16(s, from, to);
+    let number = promisebook_beyond::pb_i16_read_decimal(s, from, to);
     Answer {
         ok: number.ok,
         bits: unsigned16::wrapped(number.value) as u64,
@@ -10,5 +10,5 @@ pub fn read(s: &[u8], from: usize, to: usize) -> Answer {
 }
 
 pub fn write(out: &mut [u8], at: usize, bits: u16) -> decimal::Length {
-    decimal::write_i16(out, at, signed16::wrapped(bits))
+    promisebook_beyond::pb_i16_write_decimal(signed16::wrapped(bits), out, at)
 }

@@ -2,7 +2,7 @@
 use numbered::Answer;
 
 pub fn read(s: &[u8], from: usize, to: usize) -> Answer {
-    let number = decimal::read_i64(s, from, to);
+    let number = promisebook_beyond::pb_i64_read_decimal(s, from, to);
     Answer {
         ok: number.ok,
         bits: unsigned64::wrapped(number.value) as u64,
@@ -10,5 +10,5 @@ pub fn read(s: &[u8], from: usize, to: usize) -> Answer {
 }
 
 pub fn write(out: &mut [u8], at: usize, bits: u64) -> decimal::Length {
-    decimal::write_i64(out, at, signed64::wrapped(bits))
+    promisebook_beyond::pb_i64_write_decimal(signed64::wrapped(bits), out, at)
 }

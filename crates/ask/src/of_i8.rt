@@ -2,7 +2,7 @@
 use numbered::Answer;
 
 pub fn read(s: &[u8], from: usize, to: usize) -> Answer {
-    let number = decimal::read_i8(s, from, to);
+    let number = promisebook_beyond::pb_i8_read_decimal(s, from, to);
     Answer {
         ok: number.ok,
         bits: unsigned8::wrapped(number.value) as u64,
@@ -10,5 +10,5 @@ pub fn read(s: &[u8], from: usize, to: usize) -> Answer {
 }
 
 pub fn write(out: &mut [u8], at: usize, bits: u8) -> decimal::Length {
-    decimal::write_i8(out, at, signed8::wrapped(bits))
+    promisebook_beyond::pb_i8_write_decimal(signed8::wrapped(bits), out, at)
 }

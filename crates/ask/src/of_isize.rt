@@ -2,7 +2,7 @@
 use numbered::Answer;
 
 pub fn read(s: &[u8], from: usize, to: usize) -> Answer {
-    let number = decimal::read_isize(s, from, to);
+    let number = promisebook_beyond::pb_isize_read_decimal(s, from, to);
     Answer {
         ok: number.ok,
         bits: unsigned_size::wrapped(number.value) as u64,
@@ -10,5 +10,5 @@ pub fn read(s: &[u8], from: usize, to: usize) -> Answer {
 }
 
 pub fn write(out: &mut [u8], at: usize, bits: usize) -> decimal::Length {
-    decimal::write_isize(out, at, signed_size::wrapped(bits))
+    promisebook_beyond::pb_isize_write_decimal(signed_size::wrapped(bits), out, at)
 }

@@ -2,7 +2,7 @@
 use numbered::Answer;
 
 pub fn read(s: &[u8], from: usize, to: usize) -> Answer {
-    let number = decimal::read_u16(s, from, to);
+    let number = promisebook_beyond::pb_u16_read_decimal(s, from, to);
     Answer {
         ok: number.ok,
         bits: number.value as u64,
@@ -10,7 +10,7 @@ pub fn read(s: &[u8], from: usize, to: usize) -> Answer {
 }
 
 pub fn write(out: &mut [u8], at: usize, x: u16) -> decimal::Length {
-    decimal::write_u16(out, at, x)
+    promisebook_beyond::pb_u16_write_decimal(x, out, at)
 }
 
 pub fn count(operation: u8, x: u16) -> u32 {
@@ -25,7 +25,7 @@ pub fn count(operation: u8, x: u16) -> u32 {
 pub fn from_bytes(operation: u8, s: &[u8]) -> Answer {
     let number = match operation {
         crate::digits::FROM_LE_BYTES => promisebook::promises_bytes::pb_u16_from_le_bytes(s),
-        _ => number_bytes16::from_be_bytes(s),
+        _ => promisebook_beyond::pb_u16_from_be_bytes(s),
     };
     Answer {
         ok: number.ok,
@@ -37,6 +37,6 @@ pub fn from_bytes(operation: u8, s: &[u8]) -> Answer {
 pub fn to_bytes(operation: u8, x: u16, s: &mut [u8]) -> bool {
     match operation {
         crate::digits::TO_LE_BYTES => promisebook::promises_bytes::pb_u16_to_le_bytes(x, s, 0),
-        _ => number_bytes16::write_be_bytes(s, 0, x),
+        _ => promisebook_beyond::pb_u16_to_be_bytes(x, s, 0),
     }
 }

@@ -2,7 +2,7 @@
 use numbered::Answer;
 
 pub fn read(s: &[u8], from: usize, to: usize) -> Answer {
-    let number = decimal::read_u8(s, from, to);
+    let number = promisebook_beyond::pb_u8_read_decimal(s, from, to);
     Answer {
         ok: number.ok,
         bits: number.value as u64,
@@ -10,7 +10,7 @@ pub fn read(s: &[u8], from: usize, to: usize) -> Answer {
 }
 
 pub fn write(out: &mut [u8], at: usize, x: u8) -> decimal::Length {
-    decimal::write_u8(out, at, x)
+    promisebook_beyond::pb_u8_write_decimal(x, out, at)
 }
 
 pub fn count(operation: u8, x: u8) -> u32 {

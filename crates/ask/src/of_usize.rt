@@ -2,7 +2,7 @@
 use numbered::Answer;
 
 pub fn read(s: &[u8], from: usize, to: usize) -> Answer {
-    let number = decimal::read_usize(s, from, to);
+    let number = promisebook_beyond::pb_usize_read_decimal(s, from, to);
     Answer {
         ok: number.ok,
         bits: number.value as u64,
@@ -10,5 +10,5 @@ pub fn read(s: &[u8], from: usize, to: usize) -> Answer {
 }
 
 pub fn write(out: &mut [u8], at: usize, x: usize) -> decimal::Length {
-    decimal::write_usize(out, at, x)
+    promisebook_beyond::pb_usize_write_decimal(x, out, at)
 }

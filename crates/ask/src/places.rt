@@ -1,10 +1,9 @@
 // The first place of a byte.
-ghost use Prim.Native.Nat.{_≤_, min};
-ghost use lib.ListN.{length};
+ghost use Rattle.ask.specs.Places.{FirstFrom};
 
 // The first place from `from` on where v stands, or the end.
 pub fn first_from(s: &[u8], from: usize, v: u8) -> usize
-    ensures { λ r. ⌜ (min from (length (now (s .entry))) ≤ r) × (r ≤ length (now (s .entry))) ⌝ }
+    ensures { λ r. ⌜ FirstFrom (now (s .entry)) from v r ⌝ }
 {
     let n = s.len();
     if n < from {
@@ -17,5 +16,5 @@ pub fn first_from(s: &[u8], from: usize, v: u8) -> usize
         }
         i += 1;
     }
-    n
+    i
 }
