@@ -1,5 +1,5 @@
-// Every integer operation under a number, at every kind of integer: what a program runs through. A number goes in and comes out as its
-// bits in a u64, so that one loop serves every kind. The modules of_* hold each kind's operations (written by generate/).
+// Every integer operation that the face exports, under a number, at every kind of integer: what a program runs through. A number goes in and
+// comes out as its bits in a u64, so that one loop serves every kind. The modules of_* hold each kind's operations (written by generate/).
 mod of_i16;
 mod of_i32;
 mod of_i64;
@@ -11,7 +11,6 @@ mod of_u64;
 mod of_u8;
 mod of_usize;
 
-use theory_whole::Ordering;
 ghost use Prim.Native.Nat.{_≤_};
 
 // ---- kinds
@@ -186,12 +185,18 @@ pub fn test(yes: bool) -> Answer {
     if yes { found(1) } else { found(0) }
 }
 
-pub fn order(o: Ordering) -> Answer {
-    match o {
-        Ordering::Less => found(LESS),
-        Ordering::Equal => found(EQUAL),
-        Ordering::Greater => found(GREATER),
+// What a comparison's number says; no other number is one.
+pub fn order(number: i8) -> Answer {
+    if number == -1 {
+        return found(LESS);
     }
+    if number == 0 {
+        return found(EQUAL);
+    }
+    if number == 1 {
+        return found(GREATER);
+    }
+    refused()
 }
 
 // The library's answer. Arguments are cut down to their kind's width.
@@ -212,14 +217,15 @@ pub fn run(kind: u8, operation: u8, a: u64, b: u64) -> Answer {
     }
 }
 
-fn low8(n: u64) -> u8 {
+// The lowest bits of a number.
+pub fn low8(n: u64) -> u8 {
     (n % 256) as u8
 }
 
-fn low16(n: u64) -> u16 {
+pub fn low16(n: u64) -> u16 {
     (n % 65536) as u16
 }
 
-fn low32(n: u64) -> u32 {
+pub fn low32(n: u64) -> u32 {
     (n % 4294967296) as u32
 }

@@ -1,35 +1,36 @@
-// The operations of u16 by their numbers.
+// The operations of u16 by their numbers, as the face exports them.
 use crate::Answer;
+use promisebook::promises_u16 as face;
 use signed16 as other;
 use unsigned16 as own;
 
 // The operations that answer a number, whatever the arguments.
 fn plain(operation: u8, a: u16, b: u16, distance: u32) -> u16 {
     match operation {
-        crate::WRAPPING_ADD => own::wrapping_add(a, b),
-        crate::WRAPPING_ADD_SIGNED => own::wrapping_add_signed(a, other::wrapped(b)),
-        crate::WRAPPING_SUB => own::wrapping_sub(a, b),
-        crate::WRAPPING_MUL => own::wrapping_mul(a, b),
-        crate::WRAPPING_SHL => own::wrapping_shl(a, distance),
-        crate::WRAPPING_SHR => own::wrapping_shr(a, distance),
-        crate::SATURATING_ADD => own::saturating_add(a, b),
-        crate::SATURATING_SUB => own::saturating_sub(a, b),
-        crate::SATURATING_MUL => own::saturating_mul(a, b),
+        crate::WRAPPING_ADD => face::pb_u16_wrapping_add(a, b),
+        crate::WRAPPING_ADD_SIGNED => face::pb_u16_wrapping_add_signed(a, other::wrapped(b)),
+        crate::WRAPPING_SUB => face::pb_u16_wrapping_sub(a, b),
+        crate::WRAPPING_MUL => face::pb_u16_wrapping_mul(a, b),
+        crate::WRAPPING_SHL => face::pb_u16_wrapping_shl(a, distance),
+        crate::WRAPPING_SHR => face::pb_u16_wrapping_shr(a, distance),
+        crate::SATURATING_ADD => face::pb_u16_saturating_add(a, b),
+        crate::SATURATING_SUB => face::pb_u16_saturating_sub(a, b),
+        crate::SATURATING_MUL => face::pb_u16_saturating_mul(a, b),
         _ => 0,
     }
 }
 
 fn checked(operation: u8, a: u16, b: u16) -> own::Checked {
     match operation {
-        crate::CHECKED_ADD => own::checked_add(a, b),
-        crate::CHECKED_ADD_SIGNED => own::checked_add_signed(a, other::wrapped(b)),
-        crate::CHECKED_SUB => own::checked_sub(a, b),
-        crate::CHECKED_MUL => own::checked_mul(a, b),
-        crate::CHECKED_DIV => own::checked_div(a, b),
-        crate::CHECKED_REM => own::checked_rem(a, b),
-        crate::CHECKED_DIV_EUCLID => own::checked_div_euclid(a, b),
-        crate::CHECKED_REM_EUCLID => own::checked_rem_euclid(a, b),
-        _ => own::checked_next_multiple_of(a, b),
+        crate::CHECKED_ADD => face::pb_u16_checked_add(a, b),
+        crate::CHECKED_ADD_SIGNED => face::pb_u16_checked_add_signed(a, other::wrapped(b)),
+        crate::CHECKED_SUB => face::pb_u16_checked_sub(a, b),
+        crate::CHECKED_MUL => face::pb_u16_checked_mul(a, b),
+        crate::CHECKED_DIV => face::pb_u16_checked_div(a, b),
+        crate::CHECKED_REM => face::pb_u16_checked_rem(a, b),
+        crate::CHECKED_DIV_EUCLID => face::pb_u16_checked_div_euclid(a, b),
+        crate::CHECKED_REM_EUCLID => face::pb_u16_checked_rem_euclid(a, b),
+        _ => face::pb_u16_checked_next_multiple_of(a, b),
     }
 }
 
@@ -42,8 +43,8 @@ pub fn run(operation: u8, a: u16, b: u16, distance: u32) -> Answer {
                 bits: c.value as u64,
             }
         }
-        crate::IS_MULTIPLE_OF => crate::test(own::is_multiple_of(a, b)),
-        crate::COMPARE => crate::order(own::compare(a, b)),
+        crate::IS_MULTIPLE_OF => crate::test(face::pb_u16_is_multiple_of(a, b)),
+        crate::COMPARE => crate::order(face::pb_u16_cmp(a, b)),
         _ => crate::found(plain(operation, a, b, distance) as u64),
     }
 }

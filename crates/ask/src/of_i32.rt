@@ -1,0 +1,14 @@
+// What the questions and answers have of i32, whose numbers are held as their bits.
+use numbered::Answer;
+
+pub fn read(s: &[u8], from: usize, to: usize) -> Answer {
+    let number = promisebook_beyond::pb_i32_read_decimal(s, from, to);
+    Answer {
+        ok: number.ok,
+        bits: unsigned32::wrapped(number.value) as u64,
+    }
+}
+
+pub fn write(out: &mut [u8], at: usize, bits: u32) -> decimal::Length {
+    promisebook_beyond::pb_i32_write_decimal(signed32::wrapped(bits), out, at)
+}

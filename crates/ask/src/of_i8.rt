@@ -1,0 +1,14 @@
+// What the questions and answers have of i8, whose numbers are held as their bits.
+use numbered::Answer;
+
+pub fn read(s: &[u8], from: usize, to: usize) -> Answer {
+    let number = promisebook_beyond::pb_i8_read_decimal(s, from, to);
+    Answer {
+        ok: number.ok,
+        bits: unsigned8::wrapped(number.value) as u64,
+    }
+}
+
+pub fn write(out: &mut [u8], at: usize, bits: u8) -> decimal::Length {
+    promisebook_beyond::pb_i8_write_decimal(signed8::wrapped(bits), out, at)
+}
