@@ -7,7 +7,7 @@
     python3 tests/against_rust/compare.py --store           write sample.txt anew from the standard library's answers
 
 Exit status 1 where an answer differs, a program ends badly or answers another number of lines, a wrong answerer is not found out, or the stored sample is not what
-the standard library answers. Where there is no rustc, only the stored sample is asked."""
+the standard library answers, or ./ask lists a name that nobody asks for. Where there is no rustc, only the stored sample is asked."""
 import argparse
 import os
 import random
@@ -17,7 +17,9 @@ import questions
 import sample
 import sample_edges
 from answerers import ROOT, Fault, answers, answers_to_pieces, built, rustc_version
+from names import ASKED_WITH, listed
 
+OWN = os.path.join(ROOT, "ask")
 SHOWN = 10
 WIDEST = 200
 
@@ -116,8 +118,21 @@ def small_inputs(command, standard, seed):
     return report("%d small inputs" % len(inputs), count, differing)
 
 
+def names_left_out(program):
+    """Names that the program lists and nobody asks for, and those that are asked for and not listed: an operation that is added to it is compared, too."""
+    there = set(listed(answers(program + ["--help"], b"").decode("ascii")))
+    differing = sorted(there ^ set(ASKED_WITH))
+    print("names: %d listed, %d left out%s" % (len(there), len(differing), "".join("\n    " + name for name in differing)))
+    return len(differing)
+
+
 def compared(chosen):
-    version, program = rustc_version(), [os.path.abspath(chosen.program)]
+    version, program = rustc_version(), [os.path.abspath(chosen.program or OWN)]
+    left_out = 0 if chosen.program or chosen.store else names_left_out(program)
+    return left_out + compared_answers(chosen, version, program)
+
+
+def compared_answers(chosen, version, program):
     if not version and chosen.store:
         raise Fault("the sample is written by the standard library: it needs rustc 1.90 or later")
     if not version:
@@ -139,7 +154,7 @@ def compared(chosen):
 
 def main():
     options = argparse.ArgumentParser(description=__doc__, formatter_class=argparse.RawDescriptionHelpFormatter)
-    options.add_argument("program", nargs="?", default=os.path.join(ROOT, "ask"))
+    options.add_argument("program", nargs="?")
     options.add_argument("--seed", type=int, default=1)
     options.add_argument("--all", action="store_true")
     options.add_argument("--store", action="store_true")

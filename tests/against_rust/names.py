@@ -1,7 +1,11 @@
 """The names that can be asked for, and what each is asked with (docs/ASK.md): a number's type, or `bytes`."""
+import re
+
 UNSIGNED = ["u8", "u16", "u32", "u64", "usize"]
 SIGNED = ["i8", "i16", "i32", "i64", "isize"]
 KINDS = UNSIGNED + SIGNED
+# what stands for several types where `ask --help` lists the names
+LETTERS = {"T": UNSIGNED, "S": SIGNED, "U": ["u8", "u16", "u32", "u64"], "W": ["u16", "u32", "u64"]}
 WIDTH = {"8": 8, "16": 16, "32": 32, "64": 64, "size": 64}
 
 BOTH_SIGNS = [
@@ -53,9 +57,9 @@ def of_integers():
             yield kind + "." + operation, (kind, "u32")
         for operation in WITH_UNSIGNED if signed else WITH_SIGNED:
             yield kind + "." + operation, (kind, other_sign(kind))
-        for operation in COUNTS if kind in ("u8", "u16", "u32", "u64") else []:
+        for operation in COUNTS if kind in LETTERS["U"] else []:
             yield kind + "." + operation, (kind,)
-        for operation in FROM_BYTES + TO_BYTES if kind in ("u16", "u32", "u64") else []:
+        for operation in FROM_BYTES + TO_BYTES if kind in LETTERS["W"] else []:
             yield kind + "." + operation, ("bytes" if operation in FROM_BYTES else kind,)
 
 
@@ -65,3 +69,9 @@ NEVER_REFUSE = ("wrapping_", "saturating_", "is_multiple_of", "compare", "leadin
 
 def may_refuse(name):
     return not name.split(".")[1].startswith(NEVER_REFUSE)
+
+
+def listed(text):
+    """The names that the text of `ask --help` lists: lines that begin with one."""
+    for family, operation in re.findall(r"^ +(\w+)\.(\w+)", text, re.M):
+        yield from (kind + "." + operation for kind in LETTERS.get(family, [family]))
