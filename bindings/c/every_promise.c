@@ -108,6 +108,26 @@ static void of_u8(void)
     { uint32_t r = pb_u8_trailing_ones(247u); check("pb_u8_trailing_ones", r == 3u); }
     { uint32_t r = pb_u8_trailing_ones(0u); check("pb_u8_trailing_ones", r == 0u); }
     { uint32_t r = pb_u8_trailing_ones(255u); check("pb_u8_trailing_ones", r == 8u); }
+    { const uint8_t s[] = {50, 53, 53}; pb_answer_u8 r = pb_u8_read_decimal(s, 3, 0u, 3u); check("pb_u8_read_decimal", r.ok && r.value == 255u); }
+    { const uint8_t s[] = {50, 53, 54}; pb_answer_u8 r = pb_u8_read_decimal(s, 3, 0u, 3u); check("pb_u8_read_decimal", !r.ok && r.value == 0u); }
+    { const uint8_t s[] = {48}; pb_answer_u8 r = pb_u8_read_decimal(s, 1, 0u, 1u); check("pb_u8_read_decimal", r.ok && r.value == 0u); }
+    { const uint8_t s[] = {45, 49}; pb_answer_u8 r = pb_u8_read_decimal(s, 2, 0u, 2u); check("pb_u8_read_decimal", !r.ok && r.value == 0u); }
+    { const uint8_t s[] = {48, 48, 55}; pb_answer_u8 r = pb_u8_read_decimal(s, 3, 0u, 3u); check("pb_u8_read_decimal", r.ok && r.value == 7u); }
+    { const uint8_t s[] = {45, 48}; pb_answer_u8 r = pb_u8_read_decimal(s, 2, 0u, 2u); check("pb_u8_read_decimal", !r.ok && r.value == 0u); }
+    { const uint8_t s[] = {43, 53}; pb_answer_u8 r = pb_u8_read_decimal(s, 2, 0u, 2u); check("pb_u8_read_decimal", !r.ok && r.value == 0u); }
+    { const uint8_t s[] = {45}; pb_answer_u8 r = pb_u8_read_decimal(s, 1, 0u, 1u); check("pb_u8_read_decimal", !r.ok && r.value == 0u); }
+    { const uint8_t s[] = {0}; pb_answer_u8 r = pb_u8_read_decimal(s, 0, 0u, 0u); check("pb_u8_read_decimal", !r.ok && r.value == 0u); }
+    { const uint8_t s[] = {110, 61, 52, 50, 59}; pb_answer_u8 r = pb_u8_read_decimal(s, 5, 2u, 4u); check("pb_u8_read_decimal", r.ok && r.value == 42u); }
+    { const uint8_t s[] = {110, 61, 52, 50, 59}; pb_answer_u8 r = pb_u8_read_decimal(s, 5, 1u, 4u); check("pb_u8_read_decimal", !r.ok && r.value == 0u); }
+    { const uint8_t s[] = {110, 61, 52, 50, 59}; pb_answer_u8 r = pb_u8_read_decimal(s, 5, 2u, 6u); check("pb_u8_read_decimal", !r.ok && r.value == 0u); }
+    { const uint8_t s[] = {110, 61, 52, 50, 59}; pb_answer_u8 r = pb_u8_read_decimal(s, 5, 4u, 2u); check("pb_u8_read_decimal", !r.ok && r.value == 0u); }
+    { uint8_t s[] = {46, 46, 46, 46, 46}; pb_answer_usize r = pb_u8_write_decimal(255u, s, 5, 1u); const uint8_t s_after[] = {46, 50, 53, 53, 46}; check("pb_u8_write_decimal", r.ok && r.value == 3u && memcmp(s, s_after, 5) == 0); }
+    { uint8_t s[] = {46, 46, 46}; pb_answer_usize r = pb_u8_write_decimal(0u, s, 3, 1u); const uint8_t s_after[] = {46, 48, 46}; check("pb_u8_write_decimal", r.ok && r.value == 1u && memcmp(s, s_after, 3) == 0); }
+    { uint8_t s[] = {46, 46}; pb_answer_usize r = pb_u8_write_decimal(10u, s, 2, 0u); const uint8_t s_after[] = {49, 48}; check("pb_u8_write_decimal", r.ok && r.value == 2u && memcmp(s, s_after, 2) == 0); }
+    { uint8_t s[] = {46, 46, 46}; pb_answer_usize r = pb_u8_write_decimal(0u, s, 3, 2u); const uint8_t s_after[] = {46, 46, 48}; check("pb_u8_write_decimal", r.ok && r.value == 1u && memcmp(s, s_after, 3) == 0); }
+    { uint8_t s[] = {46, 46, 46}; pb_answer_usize r = pb_u8_write_decimal(255u, s, 3, 1u); const uint8_t s_after[] = {46, 46, 46}; check("pb_u8_write_decimal", !r.ok && r.value == 0u && memcmp(s, s_after, 3) == 0); }
+    { uint8_t s[] = {46}; pb_answer_usize r = pb_u8_write_decimal(10u, s, 1, 0u); const uint8_t s_after[] = {46}; check("pb_u8_write_decimal", !r.ok && r.value == 0u && memcmp(s, s_after, 1) == 0); }
+    { uint8_t s[] = {46}; pb_answer_usize r = pb_u8_write_decimal(7u, s, 1, 2u); const uint8_t s_after[] = {46}; check("pb_u8_write_decimal", !r.ok && r.value == 0u && memcmp(s, s_after, 1) == 0); }
 }
 
 static void of_u16(void)
@@ -207,6 +227,30 @@ static void of_u16(void)
     { uint32_t r = pb_u16_trailing_ones(247u); check("pb_u16_trailing_ones", r == 3u); }
     { uint32_t r = pb_u16_trailing_ones(0u); check("pb_u16_trailing_ones", r == 0u); }
     { uint32_t r = pb_u16_trailing_ones(65535u); check("pb_u16_trailing_ones", r == 16u); }
+    { const uint8_t s[] = {1, 2}; pb_answer_u16 r = pb_u16_from_be_bytes(s, 2); check("pb_u16_from_be_bytes", r.ok && r.value == 258u); }
+    { const uint8_t s[] = {2}; pb_answer_u16 r = pb_u16_from_be_bytes(s, 1); check("pb_u16_from_be_bytes", !r.ok && r.value == 0u); }
+    { uint8_t s[] = {0, 0, 0}; bool r = pb_u16_to_be_bytes(258u, s, 3, 1u); const uint8_t s_after[] = {0, 1, 2}; check("pb_u16_to_be_bytes", r == true && memcmp(s, s_after, 3) == 0); }
+    { uint8_t s[] = {0, 0, 0}; bool r = pb_u16_to_be_bytes(258u, s, 3, 2u); const uint8_t s_after[] = {0, 0, 0}; check("pb_u16_to_be_bytes", r == false && memcmp(s, s_after, 3) == 0); }
+    { const uint8_t s[] = {54, 53, 53, 51, 53}; pb_answer_u16 r = pb_u16_read_decimal(s, 5, 0u, 5u); check("pb_u16_read_decimal", r.ok && r.value == 65535u); }
+    { const uint8_t s[] = {54, 53, 53, 51, 54}; pb_answer_u16 r = pb_u16_read_decimal(s, 5, 0u, 5u); check("pb_u16_read_decimal", !r.ok && r.value == 0u); }
+    { const uint8_t s[] = {48}; pb_answer_u16 r = pb_u16_read_decimal(s, 1, 0u, 1u); check("pb_u16_read_decimal", r.ok && r.value == 0u); }
+    { const uint8_t s[] = {45, 49}; pb_answer_u16 r = pb_u16_read_decimal(s, 2, 0u, 2u); check("pb_u16_read_decimal", !r.ok && r.value == 0u); }
+    { const uint8_t s[] = {48, 48, 55}; pb_answer_u16 r = pb_u16_read_decimal(s, 3, 0u, 3u); check("pb_u16_read_decimal", r.ok && r.value == 7u); }
+    { const uint8_t s[] = {45, 48}; pb_answer_u16 r = pb_u16_read_decimal(s, 2, 0u, 2u); check("pb_u16_read_decimal", !r.ok && r.value == 0u); }
+    { const uint8_t s[] = {43, 53}; pb_answer_u16 r = pb_u16_read_decimal(s, 2, 0u, 2u); check("pb_u16_read_decimal", !r.ok && r.value == 0u); }
+    { const uint8_t s[] = {45}; pb_answer_u16 r = pb_u16_read_decimal(s, 1, 0u, 1u); check("pb_u16_read_decimal", !r.ok && r.value == 0u); }
+    { const uint8_t s[] = {0}; pb_answer_u16 r = pb_u16_read_decimal(s, 0, 0u, 0u); check("pb_u16_read_decimal", !r.ok && r.value == 0u); }
+    { const uint8_t s[] = {110, 61, 52, 50, 59}; pb_answer_u16 r = pb_u16_read_decimal(s, 5, 2u, 4u); check("pb_u16_read_decimal", r.ok && r.value == 42u); }
+    { const uint8_t s[] = {110, 61, 52, 50, 59}; pb_answer_u16 r = pb_u16_read_decimal(s, 5, 1u, 4u); check("pb_u16_read_decimal", !r.ok && r.value == 0u); }
+    { const uint8_t s[] = {110, 61, 52, 50, 59}; pb_answer_u16 r = pb_u16_read_decimal(s, 5, 2u, 6u); check("pb_u16_read_decimal", !r.ok && r.value == 0u); }
+    { const uint8_t s[] = {110, 61, 52, 50, 59}; pb_answer_u16 r = pb_u16_read_decimal(s, 5, 4u, 2u); check("pb_u16_read_decimal", !r.ok && r.value == 0u); }
+    { uint8_t s[] = {46, 46, 46, 46, 46, 46, 46}; pb_answer_usize r = pb_u16_write_decimal(65535u, s, 7, 1u); const uint8_t s_after[] = {46, 54, 53, 53, 51, 53, 46}; check("pb_u16_write_decimal", r.ok && r.value == 5u && memcmp(s, s_after, 7) == 0); }
+    { uint8_t s[] = {46, 46, 46}; pb_answer_usize r = pb_u16_write_decimal(0u, s, 3, 1u); const uint8_t s_after[] = {46, 48, 46}; check("pb_u16_write_decimal", r.ok && r.value == 1u && memcmp(s, s_after, 3) == 0); }
+    { uint8_t s[] = {46, 46}; pb_answer_usize r = pb_u16_write_decimal(10u, s, 2, 0u); const uint8_t s_after[] = {49, 48}; check("pb_u16_write_decimal", r.ok && r.value == 2u && memcmp(s, s_after, 2) == 0); }
+    { uint8_t s[] = {46, 46, 46}; pb_answer_usize r = pb_u16_write_decimal(0u, s, 3, 2u); const uint8_t s_after[] = {46, 46, 48}; check("pb_u16_write_decimal", r.ok && r.value == 1u && memcmp(s, s_after, 3) == 0); }
+    { uint8_t s[] = {46, 46, 46, 46, 46}; pb_answer_usize r = pb_u16_write_decimal(65535u, s, 5, 1u); const uint8_t s_after[] = {46, 46, 46, 46, 46}; check("pb_u16_write_decimal", !r.ok && r.value == 0u && memcmp(s, s_after, 5) == 0); }
+    { uint8_t s[] = {46}; pb_answer_usize r = pb_u16_write_decimal(10u, s, 1, 0u); const uint8_t s_after[] = {46}; check("pb_u16_write_decimal", !r.ok && r.value == 0u && memcmp(s, s_after, 1) == 0); }
+    { uint8_t s[] = {46}; pb_answer_usize r = pb_u16_write_decimal(7u, s, 1, 2u); const uint8_t s_after[] = {46}; check("pb_u16_write_decimal", !r.ok && r.value == 0u && memcmp(s, s_after, 1) == 0); }
 }
 
 static void of_u32(void)
@@ -306,6 +350,30 @@ static void of_u32(void)
     { uint32_t r = pb_u32_trailing_ones(247u); check("pb_u32_trailing_ones", r == 3u); }
     { uint32_t r = pb_u32_trailing_ones(0u); check("pb_u32_trailing_ones", r == 0u); }
     { uint32_t r = pb_u32_trailing_ones(4294967295u); check("pb_u32_trailing_ones", r == 32u); }
+    { const uint8_t s[] = {1, 2, 3, 4}; pb_answer_u32 r = pb_u32_from_be_bytes(s, 4); check("pb_u32_from_be_bytes", r.ok && r.value == 16909060u); }
+    { const uint8_t s[] = {2, 3, 4}; pb_answer_u32 r = pb_u32_from_be_bytes(s, 3); check("pb_u32_from_be_bytes", !r.ok && r.value == 0u); }
+    { uint8_t s[] = {0, 0, 0, 0, 0}; bool r = pb_u32_to_be_bytes(16909060u, s, 5, 1u); const uint8_t s_after[] = {0, 1, 2, 3, 4}; check("pb_u32_to_be_bytes", r == true && memcmp(s, s_after, 5) == 0); }
+    { uint8_t s[] = {0, 0, 0, 0, 0}; bool r = pb_u32_to_be_bytes(16909060u, s, 5, 2u); const uint8_t s_after[] = {0, 0, 0, 0, 0}; check("pb_u32_to_be_bytes", r == false && memcmp(s, s_after, 5) == 0); }
+    { const uint8_t s[] = {52, 50, 57, 52, 57, 54, 55, 50, 57, 53}; pb_answer_u32 r = pb_u32_read_decimal(s, 10, 0u, 10u); check("pb_u32_read_decimal", r.ok && r.value == 4294967295u); }
+    { const uint8_t s[] = {52, 50, 57, 52, 57, 54, 55, 50, 57, 54}; pb_answer_u32 r = pb_u32_read_decimal(s, 10, 0u, 10u); check("pb_u32_read_decimal", !r.ok && r.value == 0u); }
+    { const uint8_t s[] = {48}; pb_answer_u32 r = pb_u32_read_decimal(s, 1, 0u, 1u); check("pb_u32_read_decimal", r.ok && r.value == 0u); }
+    { const uint8_t s[] = {45, 49}; pb_answer_u32 r = pb_u32_read_decimal(s, 2, 0u, 2u); check("pb_u32_read_decimal", !r.ok && r.value == 0u); }
+    { const uint8_t s[] = {48, 48, 55}; pb_answer_u32 r = pb_u32_read_decimal(s, 3, 0u, 3u); check("pb_u32_read_decimal", r.ok && r.value == 7u); }
+    { const uint8_t s[] = {45, 48}; pb_answer_u32 r = pb_u32_read_decimal(s, 2, 0u, 2u); check("pb_u32_read_decimal", !r.ok && r.value == 0u); }
+    { const uint8_t s[] = {43, 53}; pb_answer_u32 r = pb_u32_read_decimal(s, 2, 0u, 2u); check("pb_u32_read_decimal", !r.ok && r.value == 0u); }
+    { const uint8_t s[] = {45}; pb_answer_u32 r = pb_u32_read_decimal(s, 1, 0u, 1u); check("pb_u32_read_decimal", !r.ok && r.value == 0u); }
+    { const uint8_t s[] = {0}; pb_answer_u32 r = pb_u32_read_decimal(s, 0, 0u, 0u); check("pb_u32_read_decimal", !r.ok && r.value == 0u); }
+    { const uint8_t s[] = {110, 61, 52, 50, 59}; pb_answer_u32 r = pb_u32_read_decimal(s, 5, 2u, 4u); check("pb_u32_read_decimal", r.ok && r.value == 42u); }
+    { const uint8_t s[] = {110, 61, 52, 50, 59}; pb_answer_u32 r = pb_u32_read_decimal(s, 5, 1u, 4u); check("pb_u32_read_decimal", !r.ok && r.value == 0u); }
+    { const uint8_t s[] = {110, 61, 52, 50, 59}; pb_answer_u32 r = pb_u32_read_decimal(s, 5, 2u, 6u); check("pb_u32_read_decimal", !r.ok && r.value == 0u); }
+    { const uint8_t s[] = {110, 61, 52, 50, 59}; pb_answer_u32 r = pb_u32_read_decimal(s, 5, 4u, 2u); check("pb_u32_read_decimal", !r.ok && r.value == 0u); }
+    { uint8_t s[] = {46, 46, 46, 46, 46, 46, 46, 46, 46, 46, 46, 46}; pb_answer_usize r = pb_u32_write_decimal(4294967295u, s, 12, 1u); const uint8_t s_after[] = {46, 52, 50, 57, 52, 57, 54, 55, 50, 57, 53, 46}; check("pb_u32_write_decimal", r.ok && r.value == 10u && memcmp(s, s_after, 12) == 0); }
+    { uint8_t s[] = {46, 46, 46}; pb_answer_usize r = pb_u32_write_decimal(0u, s, 3, 1u); const uint8_t s_after[] = {46, 48, 46}; check("pb_u32_write_decimal", r.ok && r.value == 1u && memcmp(s, s_after, 3) == 0); }
+    { uint8_t s[] = {46, 46}; pb_answer_usize r = pb_u32_write_decimal(10u, s, 2, 0u); const uint8_t s_after[] = {49, 48}; check("pb_u32_write_decimal", r.ok && r.value == 2u && memcmp(s, s_after, 2) == 0); }
+    { uint8_t s[] = {46, 46, 46}; pb_answer_usize r = pb_u32_write_decimal(0u, s, 3, 2u); const uint8_t s_after[] = {46, 46, 48}; check("pb_u32_write_decimal", r.ok && r.value == 1u && memcmp(s, s_after, 3) == 0); }
+    { uint8_t s[] = {46, 46, 46, 46, 46, 46, 46, 46, 46, 46}; pb_answer_usize r = pb_u32_write_decimal(4294967295u, s, 10, 1u); const uint8_t s_after[] = {46, 46, 46, 46, 46, 46, 46, 46, 46, 46}; check("pb_u32_write_decimal", !r.ok && r.value == 0u && memcmp(s, s_after, 10) == 0); }
+    { uint8_t s[] = {46}; pb_answer_usize r = pb_u32_write_decimal(10u, s, 1, 0u); const uint8_t s_after[] = {46}; check("pb_u32_write_decimal", !r.ok && r.value == 0u && memcmp(s, s_after, 1) == 0); }
+    { uint8_t s[] = {46}; pb_answer_usize r = pb_u32_write_decimal(7u, s, 1, 2u); const uint8_t s_after[] = {46}; check("pb_u32_write_decimal", !r.ok && r.value == 0u && memcmp(s, s_after, 1) == 0); }
 }
 
 static void of_u64(void)
@@ -405,6 +473,30 @@ static void of_u64(void)
     { uint32_t r = pb_u64_trailing_ones(247u); check("pb_u64_trailing_ones", r == 3u); }
     { uint32_t r = pb_u64_trailing_ones(0u); check("pb_u64_trailing_ones", r == 0u); }
     { uint32_t r = pb_u64_trailing_ones(18446744073709551615u); check("pb_u64_trailing_ones", r == 64u); }
+    { const uint8_t s[] = {1, 2, 3, 4, 5, 6, 7, 8}; pb_answer_u64 r = pb_u64_from_be_bytes(s, 8); check("pb_u64_from_be_bytes", r.ok && r.value == 72623859790382856u); }
+    { const uint8_t s[] = {2, 3, 4, 5, 6, 7, 8}; pb_answer_u64 r = pb_u64_from_be_bytes(s, 7); check("pb_u64_from_be_bytes", !r.ok && r.value == 0u); }
+    { uint8_t s[] = {0, 0, 0, 0, 0, 0, 0, 0, 0}; bool r = pb_u64_to_be_bytes(72623859790382856u, s, 9, 1u); const uint8_t s_after[] = {0, 1, 2, 3, 4, 5, 6, 7, 8}; check("pb_u64_to_be_bytes", r == true && memcmp(s, s_after, 9) == 0); }
+    { uint8_t s[] = {0, 0, 0, 0, 0, 0, 0, 0, 0}; bool r = pb_u64_to_be_bytes(72623859790382856u, s, 9, 2u); const uint8_t s_after[] = {0, 0, 0, 0, 0, 0, 0, 0, 0}; check("pb_u64_to_be_bytes", r == false && memcmp(s, s_after, 9) == 0); }
+    { const uint8_t s[] = {49, 56, 52, 52, 54, 55, 52, 52, 48, 55, 51, 55, 48, 57, 53, 53, 49, 54, 49, 53}; pb_answer_u64 r = pb_u64_read_decimal(s, 20, 0u, 20u); check("pb_u64_read_decimal", r.ok && r.value == 18446744073709551615u); }
+    { const uint8_t s[] = {49, 56, 52, 52, 54, 55, 52, 52, 48, 55, 51, 55, 48, 57, 53, 53, 49, 54, 49, 54}; pb_answer_u64 r = pb_u64_read_decimal(s, 20, 0u, 20u); check("pb_u64_read_decimal", !r.ok && r.value == 0u); }
+    { const uint8_t s[] = {48}; pb_answer_u64 r = pb_u64_read_decimal(s, 1, 0u, 1u); check("pb_u64_read_decimal", r.ok && r.value == 0u); }
+    { const uint8_t s[] = {45, 49}; pb_answer_u64 r = pb_u64_read_decimal(s, 2, 0u, 2u); check("pb_u64_read_decimal", !r.ok && r.value == 0u); }
+    { const uint8_t s[] = {48, 48, 55}; pb_answer_u64 r = pb_u64_read_decimal(s, 3, 0u, 3u); check("pb_u64_read_decimal", r.ok && r.value == 7u); }
+    { const uint8_t s[] = {45, 48}; pb_answer_u64 r = pb_u64_read_decimal(s, 2, 0u, 2u); check("pb_u64_read_decimal", !r.ok && r.value == 0u); }
+    { const uint8_t s[] = {43, 53}; pb_answer_u64 r = pb_u64_read_decimal(s, 2, 0u, 2u); check("pb_u64_read_decimal", !r.ok && r.value == 0u); }
+    { const uint8_t s[] = {45}; pb_answer_u64 r = pb_u64_read_decimal(s, 1, 0u, 1u); check("pb_u64_read_decimal", !r.ok && r.value == 0u); }
+    { const uint8_t s[] = {0}; pb_answer_u64 r = pb_u64_read_decimal(s, 0, 0u, 0u); check("pb_u64_read_decimal", !r.ok && r.value == 0u); }
+    { const uint8_t s[] = {110, 61, 52, 50, 59}; pb_answer_u64 r = pb_u64_read_decimal(s, 5, 2u, 4u); check("pb_u64_read_decimal", r.ok && r.value == 42u); }
+    { const uint8_t s[] = {110, 61, 52, 50, 59}; pb_answer_u64 r = pb_u64_read_decimal(s, 5, 1u, 4u); check("pb_u64_read_decimal", !r.ok && r.value == 0u); }
+    { const uint8_t s[] = {110, 61, 52, 50, 59}; pb_answer_u64 r = pb_u64_read_decimal(s, 5, 2u, 6u); check("pb_u64_read_decimal", !r.ok && r.value == 0u); }
+    { const uint8_t s[] = {110, 61, 52, 50, 59}; pb_answer_u64 r = pb_u64_read_decimal(s, 5, 4u, 2u); check("pb_u64_read_decimal", !r.ok && r.value == 0u); }
+    { uint8_t s[] = {46, 46, 46, 46, 46, 46, 46, 46, 46, 46, 46, 46, 46, 46, 46, 46, 46, 46, 46, 46, 46, 46}; pb_answer_usize r = pb_u64_write_decimal(18446744073709551615u, s, 22, 1u); const uint8_t s_after[] = {46, 49, 56, 52, 52, 54, 55, 52, 52, 48, 55, 51, 55, 48, 57, 53, 53, 49, 54, 49, 53, 46}; check("pb_u64_write_decimal", r.ok && r.value == 20u && memcmp(s, s_after, 22) == 0); }
+    { uint8_t s[] = {46, 46, 46}; pb_answer_usize r = pb_u64_write_decimal(0u, s, 3, 1u); const uint8_t s_after[] = {46, 48, 46}; check("pb_u64_write_decimal", r.ok && r.value == 1u && memcmp(s, s_after, 3) == 0); }
+    { uint8_t s[] = {46, 46}; pb_answer_usize r = pb_u64_write_decimal(10u, s, 2, 0u); const uint8_t s_after[] = {49, 48}; check("pb_u64_write_decimal", r.ok && r.value == 2u && memcmp(s, s_after, 2) == 0); }
+    { uint8_t s[] = {46, 46, 46}; pb_answer_usize r = pb_u64_write_decimal(0u, s, 3, 2u); const uint8_t s_after[] = {46, 46, 48}; check("pb_u64_write_decimal", r.ok && r.value == 1u && memcmp(s, s_after, 3) == 0); }
+    { uint8_t s[] = {46, 46, 46, 46, 46, 46, 46, 46, 46, 46, 46, 46, 46, 46, 46, 46, 46, 46, 46, 46}; pb_answer_usize r = pb_u64_write_decimal(18446744073709551615u, s, 20, 1u); const uint8_t s_after[] = {46, 46, 46, 46, 46, 46, 46, 46, 46, 46, 46, 46, 46, 46, 46, 46, 46, 46, 46, 46}; check("pb_u64_write_decimal", !r.ok && r.value == 0u && memcmp(s, s_after, 20) == 0); }
+    { uint8_t s[] = {46}; pb_answer_usize r = pb_u64_write_decimal(10u, s, 1, 0u); const uint8_t s_after[] = {46}; check("pb_u64_write_decimal", !r.ok && r.value == 0u && memcmp(s, s_after, 1) == 0); }
+    { uint8_t s[] = {46}; pb_answer_usize r = pb_u64_write_decimal(7u, s, 1, 2u); const uint8_t s_after[] = {46}; check("pb_u64_write_decimal", !r.ok && r.value == 0u && memcmp(s, s_after, 1) == 0); }
 }
 
 static void of_usize(void)
@@ -484,6 +576,26 @@ static void of_usize(void)
     { pb_answer_i8 r = pb_usize_partial_cmp(3u, 5u); check("pb_usize_partial_cmp", r.ok && r.value == -1); }
     { pb_answer_i8 r = pb_usize_partial_cmp(5u, 5u); check("pb_usize_partial_cmp", r.ok && r.value == 0); }
     { pb_answer_i8 r = pb_usize_partial_cmp(18446744073709551615u, 0u); check("pb_usize_partial_cmp", r.ok && r.value == 1); }
+    { const uint8_t s[] = {49, 56, 52, 52, 54, 55, 52, 52, 48, 55, 51, 55, 48, 57, 53, 53, 49, 54, 49, 53}; pb_answer_usize r = pb_usize_read_decimal(s, 20, 0u, 20u); check("pb_usize_read_decimal", r.ok && r.value == 18446744073709551615u); }
+    { const uint8_t s[] = {49, 56, 52, 52, 54, 55, 52, 52, 48, 55, 51, 55, 48, 57, 53, 53, 49, 54, 49, 54}; pb_answer_usize r = pb_usize_read_decimal(s, 20, 0u, 20u); check("pb_usize_read_decimal", !r.ok && r.value == 0u); }
+    { const uint8_t s[] = {48}; pb_answer_usize r = pb_usize_read_decimal(s, 1, 0u, 1u); check("pb_usize_read_decimal", r.ok && r.value == 0u); }
+    { const uint8_t s[] = {45, 49}; pb_answer_usize r = pb_usize_read_decimal(s, 2, 0u, 2u); check("pb_usize_read_decimal", !r.ok && r.value == 0u); }
+    { const uint8_t s[] = {48, 48, 55}; pb_answer_usize r = pb_usize_read_decimal(s, 3, 0u, 3u); check("pb_usize_read_decimal", r.ok && r.value == 7u); }
+    { const uint8_t s[] = {45, 48}; pb_answer_usize r = pb_usize_read_decimal(s, 2, 0u, 2u); check("pb_usize_read_decimal", !r.ok && r.value == 0u); }
+    { const uint8_t s[] = {43, 53}; pb_answer_usize r = pb_usize_read_decimal(s, 2, 0u, 2u); check("pb_usize_read_decimal", !r.ok && r.value == 0u); }
+    { const uint8_t s[] = {45}; pb_answer_usize r = pb_usize_read_decimal(s, 1, 0u, 1u); check("pb_usize_read_decimal", !r.ok && r.value == 0u); }
+    { const uint8_t s[] = {0}; pb_answer_usize r = pb_usize_read_decimal(s, 0, 0u, 0u); check("pb_usize_read_decimal", !r.ok && r.value == 0u); }
+    { const uint8_t s[] = {110, 61, 52, 50, 59}; pb_answer_usize r = pb_usize_read_decimal(s, 5, 2u, 4u); check("pb_usize_read_decimal", r.ok && r.value == 42u); }
+    { const uint8_t s[] = {110, 61, 52, 50, 59}; pb_answer_usize r = pb_usize_read_decimal(s, 5, 1u, 4u); check("pb_usize_read_decimal", !r.ok && r.value == 0u); }
+    { const uint8_t s[] = {110, 61, 52, 50, 59}; pb_answer_usize r = pb_usize_read_decimal(s, 5, 2u, 6u); check("pb_usize_read_decimal", !r.ok && r.value == 0u); }
+    { const uint8_t s[] = {110, 61, 52, 50, 59}; pb_answer_usize r = pb_usize_read_decimal(s, 5, 4u, 2u); check("pb_usize_read_decimal", !r.ok && r.value == 0u); }
+    { uint8_t s[] = {46, 46, 46, 46, 46, 46, 46, 46, 46, 46, 46, 46, 46, 46, 46, 46, 46, 46, 46, 46, 46, 46}; pb_answer_usize r = pb_usize_write_decimal(18446744073709551615u, s, 22, 1u); const uint8_t s_after[] = {46, 49, 56, 52, 52, 54, 55, 52, 52, 48, 55, 51, 55, 48, 57, 53, 53, 49, 54, 49, 53, 46}; check("pb_usize_write_decimal", r.ok && r.value == 20u && memcmp(s, s_after, 22) == 0); }
+    { uint8_t s[] = {46, 46, 46}; pb_answer_usize r = pb_usize_write_decimal(0u, s, 3, 1u); const uint8_t s_after[] = {46, 48, 46}; check("pb_usize_write_decimal", r.ok && r.value == 1u && memcmp(s, s_after, 3) == 0); }
+    { uint8_t s[] = {46, 46}; pb_answer_usize r = pb_usize_write_decimal(10u, s, 2, 0u); const uint8_t s_after[] = {49, 48}; check("pb_usize_write_decimal", r.ok && r.value == 2u && memcmp(s, s_after, 2) == 0); }
+    { uint8_t s[] = {46, 46, 46}; pb_answer_usize r = pb_usize_write_decimal(0u, s, 3, 2u); const uint8_t s_after[] = {46, 46, 48}; check("pb_usize_write_decimal", r.ok && r.value == 1u && memcmp(s, s_after, 3) == 0); }
+    { uint8_t s[] = {46, 46, 46, 46, 46, 46, 46, 46, 46, 46, 46, 46, 46, 46, 46, 46, 46, 46, 46, 46}; pb_answer_usize r = pb_usize_write_decimal(18446744073709551615u, s, 20, 1u); const uint8_t s_after[] = {46, 46, 46, 46, 46, 46, 46, 46, 46, 46, 46, 46, 46, 46, 46, 46, 46, 46, 46, 46}; check("pb_usize_write_decimal", !r.ok && r.value == 0u && memcmp(s, s_after, 20) == 0); }
+    { uint8_t s[] = {46}; pb_answer_usize r = pb_usize_write_decimal(10u, s, 1, 0u); const uint8_t s_after[] = {46}; check("pb_usize_write_decimal", !r.ok && r.value == 0u && memcmp(s, s_after, 1) == 0); }
+    { uint8_t s[] = {46}; pb_answer_usize r = pb_usize_write_decimal(7u, s, 1, 2u); const uint8_t s_after[] = {46}; check("pb_usize_write_decimal", !r.ok && r.value == 0u && memcmp(s, s_after, 1) == 0); }
 }
 
 static void of_i8(void)
@@ -560,6 +672,26 @@ static void of_i8(void)
     { pb_answer_i8 r = pb_i8_partial_cmp(3, 5); check("pb_i8_partial_cmp", r.ok && r.value == -1); }
     { pb_answer_i8 r = pb_i8_partial_cmp(5, 5); check("pb_i8_partial_cmp", r.ok && r.value == 0); }
     { pb_answer_i8 r = pb_i8_partial_cmp(127, -128); check("pb_i8_partial_cmp", r.ok && r.value == 1); }
+    { const uint8_t s[] = {49, 50, 55}; pb_answer_i8 r = pb_i8_read_decimal(s, 3, 0u, 3u); check("pb_i8_read_decimal", r.ok && r.value == 127); }
+    { const uint8_t s[] = {49, 50, 56}; pb_answer_i8 r = pb_i8_read_decimal(s, 3, 0u, 3u); check("pb_i8_read_decimal", !r.ok && r.value == 0); }
+    { const uint8_t s[] = {45, 49, 50, 56}; pb_answer_i8 r = pb_i8_read_decimal(s, 4, 0u, 4u); check("pb_i8_read_decimal", r.ok && r.value == -128); }
+    { const uint8_t s[] = {45, 49, 50, 57}; pb_answer_i8 r = pb_i8_read_decimal(s, 4, 0u, 4u); check("pb_i8_read_decimal", !r.ok && r.value == 0); }
+    { const uint8_t s[] = {48, 48, 55}; pb_answer_i8 r = pb_i8_read_decimal(s, 3, 0u, 3u); check("pb_i8_read_decimal", r.ok && r.value == 7); }
+    { const uint8_t s[] = {45, 48}; pb_answer_i8 r = pb_i8_read_decimal(s, 2, 0u, 2u); check("pb_i8_read_decimal", r.ok && r.value == 0); }
+    { const uint8_t s[] = {43, 53}; pb_answer_i8 r = pb_i8_read_decimal(s, 2, 0u, 2u); check("pb_i8_read_decimal", !r.ok && r.value == 0); }
+    { const uint8_t s[] = {45}; pb_answer_i8 r = pb_i8_read_decimal(s, 1, 0u, 1u); check("pb_i8_read_decimal", !r.ok && r.value == 0); }
+    { const uint8_t s[] = {0}; pb_answer_i8 r = pb_i8_read_decimal(s, 0, 0u, 0u); check("pb_i8_read_decimal", !r.ok && r.value == 0); }
+    { const uint8_t s[] = {110, 61, 52, 50, 59}; pb_answer_i8 r = pb_i8_read_decimal(s, 5, 2u, 4u); check("pb_i8_read_decimal", r.ok && r.value == 42); }
+    { const uint8_t s[] = {110, 61, 52, 50, 59}; pb_answer_i8 r = pb_i8_read_decimal(s, 5, 1u, 4u); check("pb_i8_read_decimal", !r.ok && r.value == 0); }
+    { const uint8_t s[] = {110, 61, 52, 50, 59}; pb_answer_i8 r = pb_i8_read_decimal(s, 5, 2u, 6u); check("pb_i8_read_decimal", !r.ok && r.value == 0); }
+    { const uint8_t s[] = {110, 61, 52, 50, 59}; pb_answer_i8 r = pb_i8_read_decimal(s, 5, 4u, 2u); check("pb_i8_read_decimal", !r.ok && r.value == 0); }
+    { uint8_t s[] = {46, 46, 46, 46, 46}; pb_answer_usize r = pb_i8_write_decimal(127, s, 5, 1u); const uint8_t s_after[] = {46, 49, 50, 55, 46}; check("pb_i8_write_decimal", r.ok && r.value == 3u && memcmp(s, s_after, 5) == 0); }
+    { uint8_t s[] = {46, 46, 46, 46, 46, 46}; pb_answer_usize r = pb_i8_write_decimal(-128, s, 6, 1u); const uint8_t s_after[] = {46, 45, 49, 50, 56, 46}; check("pb_i8_write_decimal", r.ok && r.value == 4u && memcmp(s, s_after, 6) == 0); }
+    { uint8_t s[] = {46, 46}; pb_answer_usize r = pb_i8_write_decimal(10, s, 2, 0u); const uint8_t s_after[] = {49, 48}; check("pb_i8_write_decimal", r.ok && r.value == 2u && memcmp(s, s_after, 2) == 0); }
+    { uint8_t s[] = {46, 46, 46}; pb_answer_usize r = pb_i8_write_decimal(0, s, 3, 2u); const uint8_t s_after[] = {46, 46, 48}; check("pb_i8_write_decimal", r.ok && r.value == 1u && memcmp(s, s_after, 3) == 0); }
+    { uint8_t s[] = {46, 46, 46}; pb_answer_usize r = pb_i8_write_decimal(127, s, 3, 1u); const uint8_t s_after[] = {46, 46, 46}; check("pb_i8_write_decimal", !r.ok && r.value == 0u && memcmp(s, s_after, 3) == 0); }
+    { uint8_t s[] = {46}; pb_answer_usize r = pb_i8_write_decimal(10, s, 1, 0u); const uint8_t s_after[] = {46}; check("pb_i8_write_decimal", !r.ok && r.value == 0u && memcmp(s, s_after, 1) == 0); }
+    { uint8_t s[] = {46}; pb_answer_usize r = pb_i8_write_decimal(7, s, 1, 2u); const uint8_t s_after[] = {46}; check("pb_i8_write_decimal", !r.ok && r.value == 0u && memcmp(s, s_after, 1) == 0); }
 }
 
 static void of_i16(void)
@@ -636,6 +768,26 @@ static void of_i16(void)
     { pb_answer_i8 r = pb_i16_partial_cmp(3, 5); check("pb_i16_partial_cmp", r.ok && r.value == -1); }
     { pb_answer_i8 r = pb_i16_partial_cmp(5, 5); check("pb_i16_partial_cmp", r.ok && r.value == 0); }
     { pb_answer_i8 r = pb_i16_partial_cmp(32767, -32768); check("pb_i16_partial_cmp", r.ok && r.value == 1); }
+    { const uint8_t s[] = {51, 50, 55, 54, 55}; pb_answer_i16 r = pb_i16_read_decimal(s, 5, 0u, 5u); check("pb_i16_read_decimal", r.ok && r.value == 32767); }
+    { const uint8_t s[] = {51, 50, 55, 54, 56}; pb_answer_i16 r = pb_i16_read_decimal(s, 5, 0u, 5u); check("pb_i16_read_decimal", !r.ok && r.value == 0); }
+    { const uint8_t s[] = {45, 51, 50, 55, 54, 56}; pb_answer_i16 r = pb_i16_read_decimal(s, 6, 0u, 6u); check("pb_i16_read_decimal", r.ok && r.value == -32768); }
+    { const uint8_t s[] = {45, 51, 50, 55, 54, 57}; pb_answer_i16 r = pb_i16_read_decimal(s, 6, 0u, 6u); check("pb_i16_read_decimal", !r.ok && r.value == 0); }
+    { const uint8_t s[] = {48, 48, 55}; pb_answer_i16 r = pb_i16_read_decimal(s, 3, 0u, 3u); check("pb_i16_read_decimal", r.ok && r.value == 7); }
+    { const uint8_t s[] = {45, 48}; pb_answer_i16 r = pb_i16_read_decimal(s, 2, 0u, 2u); check("pb_i16_read_decimal", r.ok && r.value == 0); }
+    { const uint8_t s[] = {43, 53}; pb_answer_i16 r = pb_i16_read_decimal(s, 2, 0u, 2u); check("pb_i16_read_decimal", !r.ok && r.value == 0); }
+    { const uint8_t s[] = {45}; pb_answer_i16 r = pb_i16_read_decimal(s, 1, 0u, 1u); check("pb_i16_read_decimal", !r.ok && r.value == 0); }
+    { const uint8_t s[] = {0}; pb_answer_i16 r = pb_i16_read_decimal(s, 0, 0u, 0u); check("pb_i16_read_decimal", !r.ok && r.value == 0); }
+    { const uint8_t s[] = {110, 61, 52, 50, 59}; pb_answer_i16 r = pb_i16_read_decimal(s, 5, 2u, 4u); check("pb_i16_read_decimal", r.ok && r.value == 42); }
+    { const uint8_t s[] = {110, 61, 52, 50, 59}; pb_answer_i16 r = pb_i16_read_decimal(s, 5, 1u, 4u); check("pb_i16_read_decimal", !r.ok && r.value == 0); }
+    { const uint8_t s[] = {110, 61, 52, 50, 59}; pb_answer_i16 r = pb_i16_read_decimal(s, 5, 2u, 6u); check("pb_i16_read_decimal", !r.ok && r.value == 0); }
+    { const uint8_t s[] = {110, 61, 52, 50, 59}; pb_answer_i16 r = pb_i16_read_decimal(s, 5, 4u, 2u); check("pb_i16_read_decimal", !r.ok && r.value == 0); }
+    { uint8_t s[] = {46, 46, 46, 46, 46, 46, 46}; pb_answer_usize r = pb_i16_write_decimal(32767, s, 7, 1u); const uint8_t s_after[] = {46, 51, 50, 55, 54, 55, 46}; check("pb_i16_write_decimal", r.ok && r.value == 5u && memcmp(s, s_after, 7) == 0); }
+    { uint8_t s[] = {46, 46, 46, 46, 46, 46, 46, 46}; pb_answer_usize r = pb_i16_write_decimal(-32768, s, 8, 1u); const uint8_t s_after[] = {46, 45, 51, 50, 55, 54, 56, 46}; check("pb_i16_write_decimal", r.ok && r.value == 6u && memcmp(s, s_after, 8) == 0); }
+    { uint8_t s[] = {46, 46}; pb_answer_usize r = pb_i16_write_decimal(10, s, 2, 0u); const uint8_t s_after[] = {49, 48}; check("pb_i16_write_decimal", r.ok && r.value == 2u && memcmp(s, s_after, 2) == 0); }
+    { uint8_t s[] = {46, 46, 46}; pb_answer_usize r = pb_i16_write_decimal(0, s, 3, 2u); const uint8_t s_after[] = {46, 46, 48}; check("pb_i16_write_decimal", r.ok && r.value == 1u && memcmp(s, s_after, 3) == 0); }
+    { uint8_t s[] = {46, 46, 46, 46, 46}; pb_answer_usize r = pb_i16_write_decimal(32767, s, 5, 1u); const uint8_t s_after[] = {46, 46, 46, 46, 46}; check("pb_i16_write_decimal", !r.ok && r.value == 0u && memcmp(s, s_after, 5) == 0); }
+    { uint8_t s[] = {46}; pb_answer_usize r = pb_i16_write_decimal(10, s, 1, 0u); const uint8_t s_after[] = {46}; check("pb_i16_write_decimal", !r.ok && r.value == 0u && memcmp(s, s_after, 1) == 0); }
+    { uint8_t s[] = {46}; pb_answer_usize r = pb_i16_write_decimal(7, s, 1, 2u); const uint8_t s_after[] = {46}; check("pb_i16_write_decimal", !r.ok && r.value == 0u && memcmp(s, s_after, 1) == 0); }
 }
 
 static void of_i32(void)
@@ -712,6 +864,26 @@ static void of_i32(void)
     { pb_answer_i8 r = pb_i32_partial_cmp(3, 5); check("pb_i32_partial_cmp", r.ok && r.value == -1); }
     { pb_answer_i8 r = pb_i32_partial_cmp(5, 5); check("pb_i32_partial_cmp", r.ok && r.value == 0); }
     { pb_answer_i8 r = pb_i32_partial_cmp(2147483647, -2147483648); check("pb_i32_partial_cmp", r.ok && r.value == 1); }
+    { const uint8_t s[] = {50, 49, 52, 55, 52, 56, 51, 54, 52, 55}; pb_answer_i32 r = pb_i32_read_decimal(s, 10, 0u, 10u); check("pb_i32_read_decimal", r.ok && r.value == 2147483647); }
+    { const uint8_t s[] = {50, 49, 52, 55, 52, 56, 51, 54, 52, 56}; pb_answer_i32 r = pb_i32_read_decimal(s, 10, 0u, 10u); check("pb_i32_read_decimal", !r.ok && r.value == 0); }
+    { const uint8_t s[] = {45, 50, 49, 52, 55, 52, 56, 51, 54, 52, 56}; pb_answer_i32 r = pb_i32_read_decimal(s, 11, 0u, 11u); check("pb_i32_read_decimal", r.ok && r.value == -2147483648); }
+    { const uint8_t s[] = {45, 50, 49, 52, 55, 52, 56, 51, 54, 52, 57}; pb_answer_i32 r = pb_i32_read_decimal(s, 11, 0u, 11u); check("pb_i32_read_decimal", !r.ok && r.value == 0); }
+    { const uint8_t s[] = {48, 48, 55}; pb_answer_i32 r = pb_i32_read_decimal(s, 3, 0u, 3u); check("pb_i32_read_decimal", r.ok && r.value == 7); }
+    { const uint8_t s[] = {45, 48}; pb_answer_i32 r = pb_i32_read_decimal(s, 2, 0u, 2u); check("pb_i32_read_decimal", r.ok && r.value == 0); }
+    { const uint8_t s[] = {43, 53}; pb_answer_i32 r = pb_i32_read_decimal(s, 2, 0u, 2u); check("pb_i32_read_decimal", !r.ok && r.value == 0); }
+    { const uint8_t s[] = {45}; pb_answer_i32 r = pb_i32_read_decimal(s, 1, 0u, 1u); check("pb_i32_read_decimal", !r.ok && r.value == 0); }
+    { const uint8_t s[] = {0}; pb_answer_i32 r = pb_i32_read_decimal(s, 0, 0u, 0u); check("pb_i32_read_decimal", !r.ok && r.value == 0); }
+    { const uint8_t s[] = {110, 61, 52, 50, 59}; pb_answer_i32 r = pb_i32_read_decimal(s, 5, 2u, 4u); check("pb_i32_read_decimal", r.ok && r.value == 42); }
+    { const uint8_t s[] = {110, 61, 52, 50, 59}; pb_answer_i32 r = pb_i32_read_decimal(s, 5, 1u, 4u); check("pb_i32_read_decimal", !r.ok && r.value == 0); }
+    { const uint8_t s[] = {110, 61, 52, 50, 59}; pb_answer_i32 r = pb_i32_read_decimal(s, 5, 2u, 6u); check("pb_i32_read_decimal", !r.ok && r.value == 0); }
+    { const uint8_t s[] = {110, 61, 52, 50, 59}; pb_answer_i32 r = pb_i32_read_decimal(s, 5, 4u, 2u); check("pb_i32_read_decimal", !r.ok && r.value == 0); }
+    { uint8_t s[] = {46, 46, 46, 46, 46, 46, 46, 46, 46, 46, 46, 46}; pb_answer_usize r = pb_i32_write_decimal(2147483647, s, 12, 1u); const uint8_t s_after[] = {46, 50, 49, 52, 55, 52, 56, 51, 54, 52, 55, 46}; check("pb_i32_write_decimal", r.ok && r.value == 10u && memcmp(s, s_after, 12) == 0); }
+    { uint8_t s[] = {46, 46, 46, 46, 46, 46, 46, 46, 46, 46, 46, 46, 46}; pb_answer_usize r = pb_i32_write_decimal(-2147483648, s, 13, 1u); const uint8_t s_after[] = {46, 45, 50, 49, 52, 55, 52, 56, 51, 54, 52, 56, 46}; check("pb_i32_write_decimal", r.ok && r.value == 11u && memcmp(s, s_after, 13) == 0); }
+    { uint8_t s[] = {46, 46}; pb_answer_usize r = pb_i32_write_decimal(10, s, 2, 0u); const uint8_t s_after[] = {49, 48}; check("pb_i32_write_decimal", r.ok && r.value == 2u && memcmp(s, s_after, 2) == 0); }
+    { uint8_t s[] = {46, 46, 46}; pb_answer_usize r = pb_i32_write_decimal(0, s, 3, 2u); const uint8_t s_after[] = {46, 46, 48}; check("pb_i32_write_decimal", r.ok && r.value == 1u && memcmp(s, s_after, 3) == 0); }
+    { uint8_t s[] = {46, 46, 46, 46, 46, 46, 46, 46, 46, 46}; pb_answer_usize r = pb_i32_write_decimal(2147483647, s, 10, 1u); const uint8_t s_after[] = {46, 46, 46, 46, 46, 46, 46, 46, 46, 46}; check("pb_i32_write_decimal", !r.ok && r.value == 0u && memcmp(s, s_after, 10) == 0); }
+    { uint8_t s[] = {46}; pb_answer_usize r = pb_i32_write_decimal(10, s, 1, 0u); const uint8_t s_after[] = {46}; check("pb_i32_write_decimal", !r.ok && r.value == 0u && memcmp(s, s_after, 1) == 0); }
+    { uint8_t s[] = {46}; pb_answer_usize r = pb_i32_write_decimal(7, s, 1, 2u); const uint8_t s_after[] = {46}; check("pb_i32_write_decimal", !r.ok && r.value == 0u && memcmp(s, s_after, 1) == 0); }
 }
 
 static void of_i64(void)
@@ -788,6 +960,26 @@ static void of_i64(void)
     { pb_answer_i8 r = pb_i64_partial_cmp(3, 5); check("pb_i64_partial_cmp", r.ok && r.value == -1); }
     { pb_answer_i8 r = pb_i64_partial_cmp(5, 5); check("pb_i64_partial_cmp", r.ok && r.value == 0); }
     { pb_answer_i8 r = pb_i64_partial_cmp(9223372036854775807, (-9223372036854775807 - 1)); check("pb_i64_partial_cmp", r.ok && r.value == 1); }
+    { const uint8_t s[] = {57, 50, 50, 51, 51, 55, 50, 48, 51, 54, 56, 53, 52, 55, 55, 53, 56, 48, 55}; pb_answer_i64 r = pb_i64_read_decimal(s, 19, 0u, 19u); check("pb_i64_read_decimal", r.ok && r.value == 9223372036854775807); }
+    { const uint8_t s[] = {57, 50, 50, 51, 51, 55, 50, 48, 51, 54, 56, 53, 52, 55, 55, 53, 56, 48, 56}; pb_answer_i64 r = pb_i64_read_decimal(s, 19, 0u, 19u); check("pb_i64_read_decimal", !r.ok && r.value == 0); }
+    { const uint8_t s[] = {45, 57, 50, 50, 51, 51, 55, 50, 48, 51, 54, 56, 53, 52, 55, 55, 53, 56, 48, 56}; pb_answer_i64 r = pb_i64_read_decimal(s, 20, 0u, 20u); check("pb_i64_read_decimal", r.ok && r.value == (-9223372036854775807 - 1)); }
+    { const uint8_t s[] = {45, 57, 50, 50, 51, 51, 55, 50, 48, 51, 54, 56, 53, 52, 55, 55, 53, 56, 48, 57}; pb_answer_i64 r = pb_i64_read_decimal(s, 20, 0u, 20u); check("pb_i64_read_decimal", !r.ok && r.value == 0); }
+    { const uint8_t s[] = {48, 48, 55}; pb_answer_i64 r = pb_i64_read_decimal(s, 3, 0u, 3u); check("pb_i64_read_decimal", r.ok && r.value == 7); }
+    { const uint8_t s[] = {45, 48}; pb_answer_i64 r = pb_i64_read_decimal(s, 2, 0u, 2u); check("pb_i64_read_decimal", r.ok && r.value == 0); }
+    { const uint8_t s[] = {43, 53}; pb_answer_i64 r = pb_i64_read_decimal(s, 2, 0u, 2u); check("pb_i64_read_decimal", !r.ok && r.value == 0); }
+    { const uint8_t s[] = {45}; pb_answer_i64 r = pb_i64_read_decimal(s, 1, 0u, 1u); check("pb_i64_read_decimal", !r.ok && r.value == 0); }
+    { const uint8_t s[] = {0}; pb_answer_i64 r = pb_i64_read_decimal(s, 0, 0u, 0u); check("pb_i64_read_decimal", !r.ok && r.value == 0); }
+    { const uint8_t s[] = {110, 61, 52, 50, 59}; pb_answer_i64 r = pb_i64_read_decimal(s, 5, 2u, 4u); check("pb_i64_read_decimal", r.ok && r.value == 42); }
+    { const uint8_t s[] = {110, 61, 52, 50, 59}; pb_answer_i64 r = pb_i64_read_decimal(s, 5, 1u, 4u); check("pb_i64_read_decimal", !r.ok && r.value == 0); }
+    { const uint8_t s[] = {110, 61, 52, 50, 59}; pb_answer_i64 r = pb_i64_read_decimal(s, 5, 2u, 6u); check("pb_i64_read_decimal", !r.ok && r.value == 0); }
+    { const uint8_t s[] = {110, 61, 52, 50, 59}; pb_answer_i64 r = pb_i64_read_decimal(s, 5, 4u, 2u); check("pb_i64_read_decimal", !r.ok && r.value == 0); }
+    { uint8_t s[] = {46, 46, 46, 46, 46, 46, 46, 46, 46, 46, 46, 46, 46, 46, 46, 46, 46, 46, 46, 46, 46}; pb_answer_usize r = pb_i64_write_decimal(9223372036854775807, s, 21, 1u); const uint8_t s_after[] = {46, 57, 50, 50, 51, 51, 55, 50, 48, 51, 54, 56, 53, 52, 55, 55, 53, 56, 48, 55, 46}; check("pb_i64_write_decimal", r.ok && r.value == 19u && memcmp(s, s_after, 21) == 0); }
+    { uint8_t s[] = {46, 46, 46, 46, 46, 46, 46, 46, 46, 46, 46, 46, 46, 46, 46, 46, 46, 46, 46, 46, 46, 46}; pb_answer_usize r = pb_i64_write_decimal((-9223372036854775807 - 1), s, 22, 1u); const uint8_t s_after[] = {46, 45, 57, 50, 50, 51, 51, 55, 50, 48, 51, 54, 56, 53, 52, 55, 55, 53, 56, 48, 56, 46}; check("pb_i64_write_decimal", r.ok && r.value == 20u && memcmp(s, s_after, 22) == 0); }
+    { uint8_t s[] = {46, 46}; pb_answer_usize r = pb_i64_write_decimal(10, s, 2, 0u); const uint8_t s_after[] = {49, 48}; check("pb_i64_write_decimal", r.ok && r.value == 2u && memcmp(s, s_after, 2) == 0); }
+    { uint8_t s[] = {46, 46, 46}; pb_answer_usize r = pb_i64_write_decimal(0, s, 3, 2u); const uint8_t s_after[] = {46, 46, 48}; check("pb_i64_write_decimal", r.ok && r.value == 1u && memcmp(s, s_after, 3) == 0); }
+    { uint8_t s[] = {46, 46, 46, 46, 46, 46, 46, 46, 46, 46, 46, 46, 46, 46, 46, 46, 46, 46, 46}; pb_answer_usize r = pb_i64_write_decimal(9223372036854775807, s, 19, 1u); const uint8_t s_after[] = {46, 46, 46, 46, 46, 46, 46, 46, 46, 46, 46, 46, 46, 46, 46, 46, 46, 46, 46}; check("pb_i64_write_decimal", !r.ok && r.value == 0u && memcmp(s, s_after, 19) == 0); }
+    { uint8_t s[] = {46}; pb_answer_usize r = pb_i64_write_decimal(10, s, 1, 0u); const uint8_t s_after[] = {46}; check("pb_i64_write_decimal", !r.ok && r.value == 0u && memcmp(s, s_after, 1) == 0); }
+    { uint8_t s[] = {46}; pb_answer_usize r = pb_i64_write_decimal(7, s, 1, 2u); const uint8_t s_after[] = {46}; check("pb_i64_write_decimal", !r.ok && r.value == 0u && memcmp(s, s_after, 1) == 0); }
 }
 
 static void of_isize(void)
@@ -864,6 +1056,26 @@ static void of_isize(void)
     { pb_answer_i8 r = pb_isize_partial_cmp(3, 5); check("pb_isize_partial_cmp", r.ok && r.value == -1); }
     { pb_answer_i8 r = pb_isize_partial_cmp(5, 5); check("pb_isize_partial_cmp", r.ok && r.value == 0); }
     { pb_answer_i8 r = pb_isize_partial_cmp(9223372036854775807, (-9223372036854775807 - 1)); check("pb_isize_partial_cmp", r.ok && r.value == 1); }
+    { const uint8_t s[] = {57, 50, 50, 51, 51, 55, 50, 48, 51, 54, 56, 53, 52, 55, 55, 53, 56, 48, 55}; pb_answer_isize r = pb_isize_read_decimal(s, 19, 0u, 19u); check("pb_isize_read_decimal", r.ok && r.value == 9223372036854775807); }
+    { const uint8_t s[] = {57, 50, 50, 51, 51, 55, 50, 48, 51, 54, 56, 53, 52, 55, 55, 53, 56, 48, 56}; pb_answer_isize r = pb_isize_read_decimal(s, 19, 0u, 19u); check("pb_isize_read_decimal", !r.ok && r.value == 0); }
+    { const uint8_t s[] = {45, 57, 50, 50, 51, 51, 55, 50, 48, 51, 54, 56, 53, 52, 55, 55, 53, 56, 48, 56}; pb_answer_isize r = pb_isize_read_decimal(s, 20, 0u, 20u); check("pb_isize_read_decimal", r.ok && r.value == (-9223372036854775807 - 1)); }
+    { const uint8_t s[] = {45, 57, 50, 50, 51, 51, 55, 50, 48, 51, 54, 56, 53, 52, 55, 55, 53, 56, 48, 57}; pb_answer_isize r = pb_isize_read_decimal(s, 20, 0u, 20u); check("pb_isize_read_decimal", !r.ok && r.value == 0); }
+    { const uint8_t s[] = {48, 48, 55}; pb_answer_isize r = pb_isize_read_decimal(s, 3, 0u, 3u); check("pb_isize_read_decimal", r.ok && r.value == 7); }
+    { const uint8_t s[] = {45, 48}; pb_answer_isize r = pb_isize_read_decimal(s, 2, 0u, 2u); check("pb_isize_read_decimal", r.ok && r.value == 0); }
+    { const uint8_t s[] = {43, 53}; pb_answer_isize r = pb_isize_read_decimal(s, 2, 0u, 2u); check("pb_isize_read_decimal", !r.ok && r.value == 0); }
+    { const uint8_t s[] = {45}; pb_answer_isize r = pb_isize_read_decimal(s, 1, 0u, 1u); check("pb_isize_read_decimal", !r.ok && r.value == 0); }
+    { const uint8_t s[] = {0}; pb_answer_isize r = pb_isize_read_decimal(s, 0, 0u, 0u); check("pb_isize_read_decimal", !r.ok && r.value == 0); }
+    { const uint8_t s[] = {110, 61, 52, 50, 59}; pb_answer_isize r = pb_isize_read_decimal(s, 5, 2u, 4u); check("pb_isize_read_decimal", r.ok && r.value == 42); }
+    { const uint8_t s[] = {110, 61, 52, 50, 59}; pb_answer_isize r = pb_isize_read_decimal(s, 5, 1u, 4u); check("pb_isize_read_decimal", !r.ok && r.value == 0); }
+    { const uint8_t s[] = {110, 61, 52, 50, 59}; pb_answer_isize r = pb_isize_read_decimal(s, 5, 2u, 6u); check("pb_isize_read_decimal", !r.ok && r.value == 0); }
+    { const uint8_t s[] = {110, 61, 52, 50, 59}; pb_answer_isize r = pb_isize_read_decimal(s, 5, 4u, 2u); check("pb_isize_read_decimal", !r.ok && r.value == 0); }
+    { uint8_t s[] = {46, 46, 46, 46, 46, 46, 46, 46, 46, 46, 46, 46, 46, 46, 46, 46, 46, 46, 46, 46, 46}; pb_answer_usize r = pb_isize_write_decimal(9223372036854775807, s, 21, 1u); const uint8_t s_after[] = {46, 57, 50, 50, 51, 51, 55, 50, 48, 51, 54, 56, 53, 52, 55, 55, 53, 56, 48, 55, 46}; check("pb_isize_write_decimal", r.ok && r.value == 19u && memcmp(s, s_after, 21) == 0); }
+    { uint8_t s[] = {46, 46, 46, 46, 46, 46, 46, 46, 46, 46, 46, 46, 46, 46, 46, 46, 46, 46, 46, 46, 46, 46}; pb_answer_usize r = pb_isize_write_decimal((-9223372036854775807 - 1), s, 22, 1u); const uint8_t s_after[] = {46, 45, 57, 50, 50, 51, 51, 55, 50, 48, 51, 54, 56, 53, 52, 55, 55, 53, 56, 48, 56, 46}; check("pb_isize_write_decimal", r.ok && r.value == 20u && memcmp(s, s_after, 22) == 0); }
+    { uint8_t s[] = {46, 46}; pb_answer_usize r = pb_isize_write_decimal(10, s, 2, 0u); const uint8_t s_after[] = {49, 48}; check("pb_isize_write_decimal", r.ok && r.value == 2u && memcmp(s, s_after, 2) == 0); }
+    { uint8_t s[] = {46, 46, 46}; pb_answer_usize r = pb_isize_write_decimal(0, s, 3, 2u); const uint8_t s_after[] = {46, 46, 48}; check("pb_isize_write_decimal", r.ok && r.value == 1u && memcmp(s, s_after, 3) == 0); }
+    { uint8_t s[] = {46, 46, 46, 46, 46, 46, 46, 46, 46, 46, 46, 46, 46, 46, 46, 46, 46, 46, 46}; pb_answer_usize r = pb_isize_write_decimal(9223372036854775807, s, 19, 1u); const uint8_t s_after[] = {46, 46, 46, 46, 46, 46, 46, 46, 46, 46, 46, 46, 46, 46, 46, 46, 46, 46, 46}; check("pb_isize_write_decimal", !r.ok && r.value == 0u && memcmp(s, s_after, 19) == 0); }
+    { uint8_t s[] = {46}; pb_answer_usize r = pb_isize_write_decimal(10, s, 1, 0u); const uint8_t s_after[] = {46}; check("pb_isize_write_decimal", !r.ok && r.value == 0u && memcmp(s, s_after, 1) == 0); }
+    { uint8_t s[] = {46}; pb_answer_usize r = pb_isize_write_decimal(7, s, 1, 2u); const uint8_t s_after[] = {46}; check("pb_isize_write_decimal", !r.ok && r.value == 0u && memcmp(s, s_after, 1) == 0); }
 }
 
 static void of_bytes(void)
@@ -946,6 +1158,11 @@ static void of_text(void)
     { const uint8_t s[] = {112, 108, 97, 105, 110}; bool r = pb_text_is_ascii(s, 5); check("pb_text_is_ascii", r == true); }
     { const uint8_t s[] = {65, 195, 169, 226, 130, 172, 240, 144, 141, 136}; bool r = pb_text_is_ascii(s, 10); check("pb_text_is_ascii", r == false); }
     { const uint8_t s[] = {0}; bool r = pb_text_is_ascii(s, 0); check("pb_text_is_ascii", r == true); }
+    { const uint8_t s[] = {65, 195, 169, 226, 130, 172, 240, 144, 141, 136}; size_t r = pb_text_valid_up_to(s, 10); check("pb_text_valid_up_to", r == 10u); }
+    { const uint8_t s[] = {65, 195, 169, 226, 130, 172, 240, 144, 141}; size_t r = pb_text_valid_up_to(s, 9); check("pb_text_valid_up_to", r == 6u); }
+    { const uint8_t s[] = {97, 98, 255}; size_t r = pb_text_valid_up_to(s, 3); check("pb_text_valid_up_to", r == 2u); }
+    { const uint8_t s[] = {128}; size_t r = pb_text_valid_up_to(s, 1); check("pb_text_valid_up_to", r == 0u); }
+    { const uint8_t s[] = {0}; size_t r = pb_text_valid_up_to(s, 0); check("pb_text_valid_up_to", r == 0u); }
 }
 
 int main(void)

@@ -65,6 +65,12 @@ int main(void)
 
     expect("-7 by 3 leaves, Euclidean", (uint64_t)pb_i64_checked_rem_euclid(-7, 3).value, 2);
     expect("the least number by -1 is answered", pb_i64_checked_div(INT64_MIN, -1).ok, false);
+
+    uint8_t line[20] = {0};
+    size_t figures = pb_u64_write_decimal(UINT64_MAX, line, sizeof line, 0).value;
+    expect("figures of the largest number", figures, 20);
+    expect("read back, it is", pb_u64_read_decimal(line, sizeof line, 0, figures).value, UINT64_MAX);
+    expect("it is read as a signed number", pb_i64_read_decimal(line, sizeof line, 0, figures).ok, false);
     printf("%d answers are wrong\n", failures);
     return failures != 0;
 }

@@ -1,5 +1,5 @@
 /* Promisebook: operations on integers, bytes and text whose contracts are proved, for C and C++.
-   Written by generate/generate.py from the exports of crates/promisebook: change it there.
+   Written by generate/generate.py from the exports of crates/promisebook and crates/promisebook_beyond: change it there.
 
    Every function answers for all arguments, and ends. "Refused" in a promise means:
    - of an answer with a field ok, that ok is false and every other field 0;
@@ -9,7 +9,7 @@
    A slice is passed as a pointer to its first byte and its length: the pointer is not null, and that many bytes are
    there, also where the length is 0 (any object's address will do). What is written shares no byte with another argument.
 
-   Link with libpromisebook.a, which `rt staticlib promisebook` writes: cc program.c libpromisebook.a */
+   Link with libpromisebook.a, which bindings/archive writes: cc program.c libpromisebook.a */
 #ifndef PROMISEBOOK_H
 #define PROMISEBOOK_H
 
@@ -36,6 +36,11 @@ typedef struct {
 
 typedef struct {
     bool ok;
+    size_t value;
+} pb_answer_usize;
+
+typedef struct {
+    bool ok;
     uint16_t value;
 } pb_answer_u16;
 
@@ -48,11 +53,6 @@ typedef struct {
     bool ok;
     uint64_t value;
 } pb_answer_u64;
-
-typedef struct {
-    bool ok;
-    size_t value;
-} pb_answer_usize;
 
 typedef struct {
     bool ok;
@@ -214,6 +214,15 @@ uint32_t pb_u8_trailing_zeros(uint8_t i);
 /* How many bits of `i` are 1 from the lowest on, up to the first 0; 8 where all are. */
 uint32_t pb_u8_trailing_ones(uint8_t i);
 
+/* The number that the bytes of `s` from `from` up to and without `to` say in decimal: one figure or more from 0 to
+   9, without a sign. Zeros in front are read, and '+' is not. Refused where they say no number, where it is not
+   from 0 to 255, and where `to` is past the end. */
+pb_answer_u8 pb_u8_read_decimal(const uint8_t *s, size_t s_len, size_t from, size_t to);
+
+/* Writes `x` in decimal into `s` from the place `at` on, with no zero in front, changes no other byte, and answers
+   how many bytes it has written. Refused where they do not fit there. */
+pb_answer_usize pb_u8_write_decimal(uint8_t x, uint8_t *s, size_t s_len, size_t at);
+
 /* ---- Operations on u16, the unsigned numbers of 16 bits: 0 to 65535. */
 
 /* The sum `x + y`, wrapped: the unsigned number of 16 bits that differs from it by a multiple of 2^16. */
@@ -319,6 +328,22 @@ uint32_t pb_u16_trailing_zeros(uint16_t i);
 /* How many bits of `i` are 1 from the lowest on, up to the first 0; 16 where all are. */
 uint32_t pb_u16_trailing_ones(uint16_t i);
 
+/* The number whose 2 bytes are `s`, highest first. Refused where `s` has another length. */
+pb_answer_u16 pb_u16_from_be_bytes(const uint8_t *s, size_t s_len);
+
+/* Writes the 2 bytes of `x` into `s` from the place `at` on, highest first, and changes no other byte. Refused where
+   they do not fit there. */
+bool pb_u16_to_be_bytes(uint16_t x, uint8_t *s, size_t s_len, size_t at);
+
+/* The number that the bytes of `s` from `from` up to and without `to` say in decimal: one figure or more from 0 to
+   9, without a sign. Zeros in front are read, and '+' is not. Refused where they say no number, where it is not
+   from 0 to 65535, and where `to` is past the end. */
+pb_answer_u16 pb_u16_read_decimal(const uint8_t *s, size_t s_len, size_t from, size_t to);
+
+/* Writes `x` in decimal into `s` from the place `at` on, with no zero in front, changes no other byte, and answers
+   how many bytes it has written. Refused where they do not fit there. */
+pb_answer_usize pb_u16_write_decimal(uint16_t x, uint8_t *s, size_t s_len, size_t at);
+
 /* ---- Operations on u32, the unsigned numbers of 32 bits: 0 to 4294967295. */
 
 /* The sum `x + y`, wrapped: the unsigned number of 32 bits that differs from it by a multiple of 2^32. */
@@ -423,6 +448,22 @@ uint32_t pb_u32_trailing_zeros(uint32_t i);
 
 /* How many bits of `i` are 1 from the lowest on, up to the first 0; 32 where all are. */
 uint32_t pb_u32_trailing_ones(uint32_t i);
+
+/* The number whose 4 bytes are `s`, highest first. Refused where `s` has another length. */
+pb_answer_u32 pb_u32_from_be_bytes(const uint8_t *s, size_t s_len);
+
+/* Writes the 4 bytes of `x` into `s` from the place `at` on, highest first, and changes no other byte. Refused where
+   they do not fit there. */
+bool pb_u32_to_be_bytes(uint32_t x, uint8_t *s, size_t s_len, size_t at);
+
+/* The number that the bytes of `s` from `from` up to and without `to` say in decimal: one figure or more from 0 to
+   9, without a sign. Zeros in front are read, and '+' is not. Refused where they say no number, where it is not
+   from 0 to 4294967295, and where `to` is past the end. */
+pb_answer_u32 pb_u32_read_decimal(const uint8_t *s, size_t s_len, size_t from, size_t to);
+
+/* Writes `x` in decimal into `s` from the place `at` on, with no zero in front, changes no other byte, and answers
+   how many bytes it has written. Refused where they do not fit there. */
+pb_answer_usize pb_u32_write_decimal(uint32_t x, uint8_t *s, size_t s_len, size_t at);
 
 /* ---- Operations on u64, the unsigned numbers of 64 bits: 0 to 18446744073709551615. */
 
@@ -530,6 +571,22 @@ uint32_t pb_u64_trailing_zeros(uint64_t i);
 /* How many bits of `i` are 1 from the lowest on, up to the first 0; 64 where all are. */
 uint32_t pb_u64_trailing_ones(uint64_t i);
 
+/* The number whose 8 bytes are `s`, highest first. Refused where `s` has another length. */
+pb_answer_u64 pb_u64_from_be_bytes(const uint8_t *s, size_t s_len);
+
+/* Writes the 8 bytes of `x` into `s` from the place `at` on, highest first, and changes no other byte. Refused where
+   they do not fit there. */
+bool pb_u64_to_be_bytes(uint64_t x, uint8_t *s, size_t s_len, size_t at);
+
+/* The number that the bytes of `s` from `from` up to and without `to` say in decimal: one figure or more from 0 to
+   9, without a sign. Zeros in front are read, and '+' is not. Refused where they say no number, where it is not
+   from 0 to 18446744073709551615, and where `to` is past the end. */
+pb_answer_u64 pb_u64_read_decimal(const uint8_t *s, size_t s_len, size_t from, size_t to);
+
+/* Writes `x` in decimal into `s` from the place `at` on, with no zero in front, changes no other byte, and answers
+   how many bytes it has written. Refused where they do not fit there. */
+pb_answer_usize pb_u64_write_decimal(uint64_t x, uint8_t *s, size_t s_len, size_t at);
+
 /* ---- Operations on usize, the unsigned numbers of 64 bits: 0 to 18446744073709551615. */
 
 /* The sum `x + y`, wrapped: the unsigned number of 64 bits that differs from it by a multiple of 2^64. */
@@ -617,6 +674,15 @@ int8_t pb_usize_cmp(size_t x, size_t y);
 /* How `x` stands to `y`: less (-1), equal (0) or greater (1). Never refused. */
 pb_answer_i8 pb_usize_partial_cmp(size_t x, size_t y);
 
+/* The number that the bytes of `s` from `from` up to and without `to` say in decimal: one figure or more from 0 to
+   9, without a sign. Zeros in front are read, and '+' is not. Refused where they say no number, where it is not
+   from 0 to 18446744073709551615, and where `to` is past the end. */
+pb_answer_usize pb_usize_read_decimal(const uint8_t *s, size_t s_len, size_t from, size_t to);
+
+/* Writes `x` in decimal into `s` from the place `at` on, with no zero in front, changes no other byte, and answers
+   how many bytes it has written. Refused where they do not fit there. */
+pb_answer_usize pb_usize_write_decimal(size_t x, uint8_t *s, size_t s_len, size_t at);
+
 /* ---- Operations on i8, the signed numbers of 8 bits: -128 to 127. */
 
 /* The sum `x + y`, wrapped: the signed number of 8 bits that differs from it by a multiple of 2^8. */
@@ -695,6 +761,15 @@ int8_t pb_i8_cmp(int8_t x, int8_t y);
 
 /* How `x` stands to `y`: less (-1), equal (0) or greater (1). Never refused. */
 pb_answer_i8 pb_i8_partial_cmp(int8_t x, int8_t y);
+
+/* The number that the bytes of `s` from `from` up to and without `to` say in decimal: one figure or more from 0 to
+   9, with '-' in front or without. Zeros in front are read, and '+' is not. Refused where they say no number,
+   where it is not from -128 to 127, and where `to` is past the end. */
+pb_answer_i8 pb_i8_read_decimal(const uint8_t *s, size_t s_len, size_t from, size_t to);
+
+/* Writes `x` in decimal into `s` from the place `at` on, with no zero in front and '-' before a negative number,
+   changes no other byte, and answers how many bytes it has written. Refused where they do not fit there. */
+pb_answer_usize pb_i8_write_decimal(int8_t x, uint8_t *s, size_t s_len, size_t at);
 
 /* ---- Operations on i16, the signed numbers of 16 bits: -32768 to 32767. */
 
@@ -775,6 +850,15 @@ int8_t pb_i16_cmp(int16_t x, int16_t y);
 /* How `x` stands to `y`: less (-1), equal (0) or greater (1). Never refused. */
 pb_answer_i8 pb_i16_partial_cmp(int16_t x, int16_t y);
 
+/* The number that the bytes of `s` from `from` up to and without `to` say in decimal: one figure or more from 0 to
+   9, with '-' in front or without. Zeros in front are read, and '+' is not. Refused where they say no number,
+   where it is not from -32768 to 32767, and where `to` is past the end. */
+pb_answer_i16 pb_i16_read_decimal(const uint8_t *s, size_t s_len, size_t from, size_t to);
+
+/* Writes `x` in decimal into `s` from the place `at` on, with no zero in front and '-' before a negative number,
+   changes no other byte, and answers how many bytes it has written. Refused where they do not fit there. */
+pb_answer_usize pb_i16_write_decimal(int16_t x, uint8_t *s, size_t s_len, size_t at);
+
 /* ---- Operations on i32, the signed numbers of 32 bits: -2147483648 to 2147483647. */
 
 /* The sum `x + y`, wrapped: the signed number of 32 bits that differs from it by a multiple of 2^32. */
@@ -853,6 +937,15 @@ int8_t pb_i32_cmp(int32_t x, int32_t y);
 
 /* How `x` stands to `y`: less (-1), equal (0) or greater (1). Never refused. */
 pb_answer_i8 pb_i32_partial_cmp(int32_t x, int32_t y);
+
+/* The number that the bytes of `s` from `from` up to and without `to` say in decimal: one figure or more from 0 to
+   9, with '-' in front or without. Zeros in front are read, and '+' is not. Refused where they say no number,
+   where it is not from -2147483648 to 2147483647, and where `to` is past the end. */
+pb_answer_i32 pb_i32_read_decimal(const uint8_t *s, size_t s_len, size_t from, size_t to);
+
+/* Writes `x` in decimal into `s` from the place `at` on, with no zero in front and '-' before a negative number,
+   changes no other byte, and answers how many bytes it has written. Refused where they do not fit there. */
+pb_answer_usize pb_i32_write_decimal(int32_t x, uint8_t *s, size_t s_len, size_t at);
 
 /* ---- Operations on i64, the signed numbers of 64 bits: -9223372036854775808 to 9223372036854775807. */
 
@@ -933,6 +1026,15 @@ int8_t pb_i64_cmp(int64_t x, int64_t y);
 /* How `x` stands to `y`: less (-1), equal (0) or greater (1). Never refused. */
 pb_answer_i8 pb_i64_partial_cmp(int64_t x, int64_t y);
 
+/* The number that the bytes of `s` from `from` up to and without `to` say in decimal: one figure or more from 0 to
+   9, with '-' in front or without. Zeros in front are read, and '+' is not. Refused where they say no number,
+   where it is not from -9223372036854775808 to 9223372036854775807, and where `to` is past the end. */
+pb_answer_i64 pb_i64_read_decimal(const uint8_t *s, size_t s_len, size_t from, size_t to);
+
+/* Writes `x` in decimal into `s` from the place `at` on, with no zero in front and '-' before a negative number,
+   changes no other byte, and answers how many bytes it has written. Refused where they do not fit there. */
+pb_answer_usize pb_i64_write_decimal(int64_t x, uint8_t *s, size_t s_len, size_t at);
+
 /* ---- Operations on isize, the signed numbers of 64 bits: -9223372036854775808 to 9223372036854775807. */
 
 /* The sum `x + y`, wrapped: the signed number of 64 bits that differs from it by a multiple of 2^64. */
@@ -1011,6 +1113,15 @@ int8_t pb_isize_cmp(ptrdiff_t x, ptrdiff_t y);
 
 /* How `x` stands to `y`: less (-1), equal (0) or greater (1). Never refused. */
 pb_answer_i8 pb_isize_partial_cmp(ptrdiff_t x, ptrdiff_t y);
+
+/* The number that the bytes of `s` from `from` up to and without `to` say in decimal: one figure or more from 0 to
+   9, with '-' in front or without. Zeros in front are read, and '+' is not. Refused where they say no number,
+   where it is not from -9223372036854775808 to 9223372036854775807, and where `to` is past the end. */
+pb_answer_isize pb_isize_read_decimal(const uint8_t *s, size_t s_len, size_t from, size_t to);
+
+/* Writes `x` in decimal into `s` from the place `at` on, with no zero in front and '-' before a negative number,
+   changes no other byte, and answers how many bytes it has written. Refused where they do not fit there. */
+pb_answer_usize pb_isize_write_decimal(ptrdiff_t x, uint8_t *s, size_t s_len, size_t at);
 
 /* ---- Slices of bytes, by parts: the bytes of `s` from the place `from` up to and without `to`. */
 
@@ -1114,6 +1225,9 @@ pb_text_split pb_text_split_at(const uint8_t *s, size_t s_len, size_t at);
 
 /* Whether every byte of `s` is ASCII, at most 0x7f. */
 bool pb_text_is_ascii(const uint8_t *s, size_t s_len);
+
+/* The length of the longest beginning of `s` that is valid UTF-8: of all of `s` where that is valid. */
+size_t pb_text_valid_up_to(const uint8_t *s, size_t s_len);
 
 #ifdef __cplusplus
 }

@@ -1,7 +1,7 @@
 //! Finds libpromisebook.a, or has the Rattle kit write it, and links it.
 //!
 //! The archive is the file that PROMISEBOOK_ARCHIVE names; else the repository's
-//! target/staticlib/libpromisebook.a, which `rt staticlib promisebook` writes.
+//! target/bindings/libpromisebook.a, which the script bindings/archive writes.
 use std::env;
 use std::fs;
 use std::path::{Path, PathBuf};
@@ -18,21 +18,21 @@ fn fail(why: &str) -> ! {
 /// The archive in the repository, proved and written now where it is not there yet.
 fn archive_of(repository: &Path) -> PathBuf {
     if env::var("CARGO_CFG_TARGET_ARCH").as_deref() != Ok("x86_64") {
-        fail("`rt staticlib` writes the archive for x86-64 alone, and this build is for another machine");
+        fail("the kit writes the archive for x86-64 alone, and this build is for another machine");
     }
-    let archive = repository.join("target/staticlib/libpromisebook.a");
+    let archive = repository.join("target/bindings/libpromisebook.a");
     if archive.is_file() {
         return archive;
     }
     if !repository.join("crates.txt").is_file() {
         fail("this crate stands outside its repository, and no archive is named");
     }
-    let ran = Command::new("rt").args(["staticlib", "promisebook"]).current_dir(repository).output();
-    match ran {
-        Err(error) => fail(&format!("{} is not there, and `rt` cannot be run to write it: {error}", archive.display())),
+    let script = repository.join("bindings/archive");
+    match Command::new(&script).output() {
+        Err(error) => fail(&format!("{} is not there, and {} cannot be run to write it: {error}", archive.display(), script.display())),
         Ok(output) if !output.status.success() => {
             eprint!("{}{}", String::from_utf8_lossy(&output.stdout), String::from_utf8_lossy(&output.stderr));
-            fail("`rt staticlib promisebook` failed")
+            fail("bindings/archive failed")
         }
         Ok(_) => archive,
     }

@@ -1,4 +1,4 @@
-"""The exported functions of the face, read from its source: their names, parameters and answers, with the structs that they answer."""
+"""The exported functions of the faces, read from their source: their names, parameters and answers, with the structs that they answer."""
 import glob
 import os
 import re
@@ -6,7 +6,7 @@ from dataclasses import dataclass
 
 from templates import CRATES, read
 
-FACE = "promisebook"
+FACES = ["promisebook", "promisebook_beyond"]
 INTEGER = re.compile(r"([ui])(8|16|32|64|128|size)")
 SLICE = re.compile(r"&(mut )?\[(\w+)\]")
 EXPORT = re.compile(r"^#\[no_mangle\]\npub extern \"C\" fn pb_(\w+)\(([^)]*)\) -> ([\w:]+)\n", re.M)
@@ -61,14 +61,14 @@ def structs(crate, made):
     }
 
 
-def answered(written, where, made):
+def answered(written, where, face, made):
     """A written answer: a type of the language as it stands, or the struct that a path names."""
     if written == "bool" or INTEGER.fullmatch(written):
         return written
     crate, _, name = written.rpartition("::")
-    known = structs(crate or FACE, made)
+    known = structs(crate or face, made)
     if name not in known:
-        raise SystemExit("%s: %s is no #[repr(C)] struct of %s" % (where, name, crate or FACE))
+        raise SystemExit("%s: %s is no #[repr(C)] struct of %s" % (where, name, crate or face))
     if known[name].fields[0] != ("ok", "bool"):
         raise SystemExit("%s: the struct %s does not begin with ok, and the bindings have no form for it" % (where, name))
     return known[name]
@@ -83,18 +83,19 @@ def parameters(text, where):
 
 
 def exports(made):
-    """Every export, in groups: the integers by sign and width, then the families; within a group first those of the group's own module."""
+    """Every export, in groups: the integers by sign and width, then the families; within a group face by face, and first those of the group's own module."""
     found = []
-    for path, text in sources(FACE, made).items():
-        read_here = EXPORT.findall(text)
-        if len(read_here) != text.count('extern "C" fn'):
-            raise SystemExit("%s: an exported function is not written as the others are" % path)
-        module = os.path.splitext(os.path.basename(path))[0]
-        for name, written, answer in read_here:
-            group, _, operation = name.partition("_")
-            export = Export(group, operation, parameters(written, name), answered(answer, name, made))
-            found.append((group_order(group), module != "promises_" + group, module, len(found), export))
-    return [export for *_, export in sorted(found, key=lambda row: row[:4])]
+    for face in FACES:
+        for path, text in sources(face, made).items():
+            read_here = EXPORT.findall(text)
+            if len(read_here) != text.count('extern "C" fn'):
+                raise SystemExit("%s: an exported function is not written as the others are" % path)
+            module = os.path.splitext(os.path.basename(path))[0]
+            for name, written, answer in read_here:
+                group, _, operation = name.partition("_")
+                export = Export(group, operation, parameters(written, name), answered(answer, name, face, made))
+                found.append((group_order(group), FACES.index(face), module != "promises_" + group, module, len(found), export))
+    return [export for *_, export in sorted(found, key=lambda row: row[:5])]
 
 
 def group_order(group):

@@ -8,6 +8,7 @@ class Promise:
     sentence: str  # names of parameters and code stand in backticks; words in braces are those of the integer kind
     meaning: Callable  # of the kind and the arguments: None where the operation refuses, else what it answers; a lent bytearray is changed in place
     cases: Callable  # of the kind: the arguments of each case
+    characters: bool = False  # whether its bytes are shown as characters
 
 
 @dataclass(frozen=True)

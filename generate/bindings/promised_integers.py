@@ -1,7 +1,8 @@
-"""The promises of integers: arithmetic, comparing, zeros and ones, the bytes of a number.
+"""The promises of integers: arithmetic, comparing, zeros and ones, the bytes of a number, decimal text.
 
 The cases at 8 bits are those of the worked tables; at other widths they are the same distances from the ends."""
 import programs
+from bindings import promised_decimal
 from bindings.promise import Promise
 
 SIGNS_OF_SHIFTS = {"unsigned": "zeros come in", "signed": "the sign comes in, so that it is the quotient by 2 to that power, rounded down"}
@@ -96,18 +97,30 @@ def written_into(order):
     return meaning
 
 
-def ascending(k):
-    """Bytes 8, 7, .. 1: lowest first they are 0x0102030405060708 and its ends."""
-    return bytes(range(k.bits // 8, 0, -1))
+def counting(k, order):
+    """The bytes of 0x0102030405060708 and its ends."""
+    return bytes(range(1, k.bits // 8 + 1))[::1 if order == "big" else -1]
 
 
-def bytes_read(k):
-    return [(ascending(k),), (ascending(k)[1:],)]
+def bytes_read(order):
+    return lambda k: [(counting(k, order),), (counting(k, order)[1:],)]
 
 
 def bytes_written(k):
-    number, size = int.from_bytes(ascending(k), "little"), k.bits // 8
+    number, size = int.from_bytes(counting(k, "big"), "big"), k.bits // 8
     return [(number, bytes(size + 1), 1), (number, bytes(size + 1), 2)]
+
+
+def bytes_of_a_number(name, order, first):
+    """The promises of the two operations on a number's bytes in this order."""
+    yield "from_%s_bytes" % name, Promise(
+        "The number whose {bytes} bytes are `s`, %s first. Refused where `s` has another length." % first, number_of(order), bytes_read(order),
+    )
+    yield "to_%s_bytes" % name, Promise(
+        "Writes the {bytes} bytes of `x` into `s` from the place `at` on, %s first, and changes no other byte. Refused where they do not fit there." % first,
+        written_into(order),
+        bytes_written,
+    )
 
 
 def worked(operation, sentence, cases):
@@ -168,10 +181,7 @@ PROMISES.update({
     "leading_ones": Promise("How many bits of `i` are 1 from the highest on, up to the first 0; {bits} where all are.", counted("1", True), bit_patterns),
     "trailing_zeros": Promise("How many bits of `i` are 0 from the lowest on, up to the first 1; {bits} where all are.", counted("0", False), bit_patterns),
     "trailing_ones": Promise("How many bits of `i` are 1 from the lowest on, up to the first 0; {bits} where all are.", counted("1", False), bit_patterns),
-    "from_le_bytes": Promise("The number whose {bytes} bytes are `s`, lowest first. Refused where `s` has another length.", number_of("little"), bytes_read),
-    "to_le_bytes": Promise(
-        "Writes the {bytes} bytes of `x` into `s` from the place `at` on, lowest first, and changes no other byte. Refused where they do not fit there.",
-        written_into("little"),
-        bytes_written,
-    ),
 })
+PROMISES.update(bytes_of_a_number("le", "little", "lowest"))
+PROMISES.update(bytes_of_a_number("be", "big", "highest"))
+PROMISES.update(promised_decimal.PROMISES)

@@ -41,6 +41,10 @@ def read(kind, s, start, end, first):
     return None
 
 
+def valid_up_to(kind, s):
+    return max(length for length in range(len(s) + 1) if decoded(s[:length]) is not None)
+
+
 def boundary(s, at):
     return decoded(s[:at]) is not None and at <= len(s)
 
@@ -81,6 +85,10 @@ PROMISES = {
     "valid": promise(
         "Whether `s` is valid UTF-8.", lambda kind, s: decoded(s) is not None,
         (MIXED,), (b"\xf4\x8f\xbf\xbf",), (b"\xc0\x80",), (b"\xed\xa0\x80",), (b"\xf0\x9f\x98",),
+    ),
+    "valid_up_to": promise(
+        "The length of the longest beginning of `s` that is valid UTF-8: of all of `s` where that is valid.", valid_up_to,
+        (MIXED,), (MIXED[:9],), (b"ab\xff",), (b"\x80",), (b"",),
     ),
     "count": promise(
         "How many scalar values the text `s` has. Refused where it is not valid UTF-8.",

@@ -3,7 +3,7 @@ from dataclasses import dataclass
 from typing import Callable
 
 from bindings.exports import SLICE, Struct
-from bindings.promised import kind_of
+from bindings.promised import kind_of, promise_of
 
 # Operations that answer the number of an Ordering.
 ORDERED = ("cmp", "partial_cmp")
@@ -70,18 +70,26 @@ def fields(struct, path, values):
 
 def named_literal(export):
     struct, path = export.answer, "%s::%s" % (module(export.group), export.answer.name)
-    return lambda values: fields(struct, path, [literal(value, kind, export.group) for (_, kind), value in zip(struct.fields[1:], values, strict=True)])
+    return lambda values: fields(struct, path, [literal(value, kind, export) for (_, kind), value in zip(struct.fields[1:], values, strict=True)])
 
 
-def listed(value, group):
-    return "[%s]" % ", ".join("0x%02x" % byte if group == "text" else str(byte) for byte in value)
+def characters(value):
+    return 'b"%s"' % value.decode("ascii")
 
 
-def literal(value, written, group):
+def listed(value, export):
+    if promise_of(export).characters:
+        return "*" + characters(value)
+    return "[%s]" % ", ".join("0x%02x" % byte if export.group == "text" else str(byte) for byte in value)
+
+
+def literal(value, written, export):
     """A value of a type; in the family of text, bytes that are text stand as text, and others and scalar values in hexadecimal."""
     if not SLICE.fullmatch(written):
-        return hex(value) if group == "text" and written == "u32" else str(value)
+        return hex(value) if export.group == "text" and written == "u32" else str(value)
+    if promise_of(export).characters:
+        return characters(value)
     text = value.decode("utf-8", "replace")
-    if group == "text" and text.isprintable() and text and text.encode() == value:
+    if export.group == "text" and text.isprintable() and text and text.encode() == value:
         return '"%s".as_bytes()' % text
-    return "&" + listed(value, group)
+    return "&" + listed(value, export)

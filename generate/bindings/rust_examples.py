@@ -19,16 +19,16 @@ def example(export):
     for place, (name, written) in enumerate(export.parameters):
         if written.startswith("&[") and len({case[0][place] for case in worked}) == 1 and len(worked) > 1:
             named.add(name)
-            text = literal(worked[0][0][place], written, export.group)
+            text = literal(worked[0][0][place], written, export)
             lines.append("let %s = %s;" % (name, text))
     for arguments, answer, after in worked:
         values = []
         for (name, written), value in zip(export.parameters, arguments):
-            text = literal(value, written, export.group)
+            text = literal(value, written, export)
             if written.startswith("&mut "):
-                lines.append("let mut %s = %s;" % (name, listed(value, export.group)))
+                lines.append("let mut %s = %s;" % (name, listed(value, export)))
                 text = "&mut " + name
             values.append(name if name in named else text)
         lines.append(assertion("%s::%s(%s)" % (module(export.group), export.operation, ", ".join(values)), answer, export))
-        lines += ["assert_eq!(%s, %s);" % (name, listed(value, export.group)) for name, value in after.items()]
+        lines += ["assert_eq!(%s, %s);" % (name, listed(value, export)) for name, value in after.items()]
     return lines

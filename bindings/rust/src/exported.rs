@@ -77,6 +77,8 @@ unsafe extern "C" {
     pub safe fn pb_u8_leading_ones(i: u8) -> u32;
     pub safe fn pb_u8_trailing_zeros(i: u8) -> u32;
     pub safe fn pb_u8_trailing_ones(i: u8) -> u32;
+    fn pb_u8_read_decimal(s: *const u8, s_len: usize, from: usize, to: usize) -> Answer<u8>;
+    fn pb_u8_write_decimal(x: u8, s: *mut u8, s_len: usize, at: usize) -> Answer<usize>;
     pub safe fn pb_u16_wrapping_add(x: u16, y: u16) -> u16;
     pub safe fn pb_u16_wrapping_add_signed(x: u16, y: i16) -> u16;
     pub safe fn pb_u16_wrapping_sub(x: u16, y: u16) -> u16;
@@ -111,6 +113,10 @@ unsafe extern "C" {
     pub safe fn pb_u16_leading_ones(i: u16) -> u32;
     pub safe fn pb_u16_trailing_zeros(i: u16) -> u32;
     pub safe fn pb_u16_trailing_ones(i: u16) -> u32;
+    fn pb_u16_from_be_bytes(s: *const u8, s_len: usize) -> Answer<u16>;
+    fn pb_u16_to_be_bytes(x: u16, s: *mut u8, s_len: usize, at: usize) -> bool;
+    fn pb_u16_read_decimal(s: *const u8, s_len: usize, from: usize, to: usize) -> Answer<u16>;
+    fn pb_u16_write_decimal(x: u16, s: *mut u8, s_len: usize, at: usize) -> Answer<usize>;
     pub safe fn pb_u32_wrapping_add(x: u32, y: u32) -> u32;
     pub safe fn pb_u32_wrapping_add_signed(x: u32, y: i32) -> u32;
     pub safe fn pb_u32_wrapping_sub(x: u32, y: u32) -> u32;
@@ -145,6 +151,10 @@ unsafe extern "C" {
     pub safe fn pb_u32_leading_ones(i: u32) -> u32;
     pub safe fn pb_u32_trailing_zeros(i: u32) -> u32;
     pub safe fn pb_u32_trailing_ones(i: u32) -> u32;
+    fn pb_u32_from_be_bytes(s: *const u8, s_len: usize) -> Answer<u32>;
+    fn pb_u32_to_be_bytes(x: u32, s: *mut u8, s_len: usize, at: usize) -> bool;
+    fn pb_u32_read_decimal(s: *const u8, s_len: usize, from: usize, to: usize) -> Answer<u32>;
+    fn pb_u32_write_decimal(x: u32, s: *mut u8, s_len: usize, at: usize) -> Answer<usize>;
     pub safe fn pb_u64_wrapping_add(x: u64, y: u64) -> u64;
     pub safe fn pb_u64_wrapping_add_signed(x: u64, y: i64) -> u64;
     pub safe fn pb_u64_wrapping_sub(x: u64, y: u64) -> u64;
@@ -179,6 +189,10 @@ unsafe extern "C" {
     pub safe fn pb_u64_leading_ones(i: u64) -> u32;
     pub safe fn pb_u64_trailing_zeros(i: u64) -> u32;
     pub safe fn pb_u64_trailing_ones(i: u64) -> u32;
+    fn pb_u64_from_be_bytes(s: *const u8, s_len: usize) -> Answer<u64>;
+    fn pb_u64_to_be_bytes(x: u64, s: *mut u8, s_len: usize, at: usize) -> bool;
+    fn pb_u64_read_decimal(s: *const u8, s_len: usize, from: usize, to: usize) -> Answer<u64>;
+    fn pb_u64_write_decimal(x: u64, s: *mut u8, s_len: usize, at: usize) -> Answer<usize>;
     pub safe fn pb_usize_wrapping_add(x: usize, y: usize) -> usize;
     pub safe fn pb_usize_wrapping_add_signed(x: usize, y: isize) -> usize;
     pub safe fn pb_usize_wrapping_sub(x: usize, y: usize) -> usize;
@@ -207,6 +221,8 @@ unsafe extern "C" {
     pub safe fn pb_usize_ge(x: usize, y: usize) -> bool;
     pub safe fn pb_usize_cmp(x: usize, y: usize) -> i8;
     pub safe fn pb_usize_partial_cmp(x: usize, y: usize) -> Answer<i8>;
+    fn pb_usize_read_decimal(s: *const u8, s_len: usize, from: usize, to: usize) -> Answer<usize>;
+    fn pb_usize_write_decimal(x: usize, s: *mut u8, s_len: usize, at: usize) -> Answer<usize>;
     pub safe fn pb_i8_wrapping_add(x: i8, y: i8) -> i8;
     pub safe fn pb_i8_wrapping_add_unsigned(x: i8, y: u8) -> i8;
     pub safe fn pb_i8_wrapping_sub(x: i8, y: i8) -> i8;
@@ -231,6 +247,8 @@ unsafe extern "C" {
     pub safe fn pb_i8_ge(x: i8, y: i8) -> bool;
     pub safe fn pb_i8_cmp(x: i8, y: i8) -> i8;
     pub safe fn pb_i8_partial_cmp(x: i8, y: i8) -> Answer<i8>;
+    fn pb_i8_read_decimal(s: *const u8, s_len: usize, from: usize, to: usize) -> Answer<i8>;
+    fn pb_i8_write_decimal(x: i8, s: *mut u8, s_len: usize, at: usize) -> Answer<usize>;
     pub safe fn pb_i16_wrapping_add(x: i16, y: i16) -> i16;
     pub safe fn pb_i16_wrapping_add_unsigned(x: i16, y: u16) -> i16;
     pub safe fn pb_i16_wrapping_sub(x: i16, y: i16) -> i16;
@@ -255,6 +273,8 @@ unsafe extern "C" {
     pub safe fn pb_i16_ge(x: i16, y: i16) -> bool;
     pub safe fn pb_i16_cmp(x: i16, y: i16) -> i8;
     pub safe fn pb_i16_partial_cmp(x: i16, y: i16) -> Answer<i8>;
+    fn pb_i16_read_decimal(s: *const u8, s_len: usize, from: usize, to: usize) -> Answer<i16>;
+    fn pb_i16_write_decimal(x: i16, s: *mut u8, s_len: usize, at: usize) -> Answer<usize>;
     pub safe fn pb_i32_wrapping_add(x: i32, y: i32) -> i32;
     pub safe fn pb_i32_wrapping_add_unsigned(x: i32, y: u32) -> i32;
     pub safe fn pb_i32_wrapping_sub(x: i32, y: i32) -> i32;
@@ -279,6 +299,8 @@ unsafe extern "C" {
     pub safe fn pb_i32_ge(x: i32, y: i32) -> bool;
     pub safe fn pb_i32_cmp(x: i32, y: i32) -> i8;
     pub safe fn pb_i32_partial_cmp(x: i32, y: i32) -> Answer<i8>;
+    fn pb_i32_read_decimal(s: *const u8, s_len: usize, from: usize, to: usize) -> Answer<i32>;
+    fn pb_i32_write_decimal(x: i32, s: *mut u8, s_len: usize, at: usize) -> Answer<usize>;
     pub safe fn pb_i64_wrapping_add(x: i64, y: i64) -> i64;
     pub safe fn pb_i64_wrapping_add_unsigned(x: i64, y: u64) -> i64;
     pub safe fn pb_i64_wrapping_sub(x: i64, y: i64) -> i64;
@@ -303,6 +325,8 @@ unsafe extern "C" {
     pub safe fn pb_i64_ge(x: i64, y: i64) -> bool;
     pub safe fn pb_i64_cmp(x: i64, y: i64) -> i8;
     pub safe fn pb_i64_partial_cmp(x: i64, y: i64) -> Answer<i8>;
+    fn pb_i64_read_decimal(s: *const u8, s_len: usize, from: usize, to: usize) -> Answer<i64>;
+    fn pb_i64_write_decimal(x: i64, s: *mut u8, s_len: usize, at: usize) -> Answer<usize>;
     pub safe fn pb_isize_wrapping_add(x: isize, y: isize) -> isize;
     pub safe fn pb_isize_wrapping_add_unsigned(x: isize, y: usize) -> isize;
     pub safe fn pb_isize_wrapping_sub(x: isize, y: isize) -> isize;
@@ -327,6 +351,8 @@ unsafe extern "C" {
     pub safe fn pb_isize_ge(x: isize, y: isize) -> bool;
     pub safe fn pb_isize_cmp(x: isize, y: isize) -> i8;
     pub safe fn pb_isize_partial_cmp(x: isize, y: isize) -> Answer<i8>;
+    fn pb_isize_read_decimal(s: *const u8, s_len: usize, from: usize, to: usize) -> Answer<isize>;
+    fn pb_isize_write_decimal(x: isize, s: *mut u8, s_len: usize, at: usize) -> Answer<usize>;
     fn pb_bytes_len(s: *const u8, s_len: usize, from: usize, to: usize) -> Answer<usize>;
     fn pb_bytes_is_empty(s: *const u8, s_len: usize, from: usize, to: usize) -> Answer<bool>;
     fn pb_bytes_get(s: *const u8, s_len: usize, from: usize, to: usize, i: usize) -> Answer<u8>;
@@ -354,9 +380,20 @@ unsafe extern "C" {
     fn pb_text_is_boundary(s: *const u8, s_len: usize, at: usize) -> Answer<bool>;
     fn pb_text_split_at(s: *const u8, s_len: usize, at: usize) -> TextSplit;
     fn pb_text_is_ascii(s: *const u8, s_len: usize) -> bool;
+    fn pb_text_valid_up_to(s: *const u8, s_len: usize) -> usize;
 }
 
 // A slice is there, with its length, and one that is written is shared with nobody: what these functions ask is what Rust's types say.
+
+#[inline]
+pub fn u8_read_decimal(s: &[u8], from: usize, to: usize) -> Answer<u8> {
+    unsafe { pb_u8_read_decimal(s.as_ptr(), s.len(), from, to) }
+}
+
+#[inline]
+pub fn u8_write_decimal(x: u8, s: &mut [u8], at: usize) -> Answer<usize> {
+    unsafe { pb_u8_write_decimal(x, s.as_mut_ptr(), s.len(), at) }
+}
 
 #[inline]
 pub fn u16_from_le_bytes(s: &[u8]) -> Answer<u16> {
@@ -366,6 +403,26 @@ pub fn u16_from_le_bytes(s: &[u8]) -> Answer<u16> {
 #[inline]
 pub fn u16_to_le_bytes(x: u16, s: &mut [u8], at: usize) -> bool {
     unsafe { pb_u16_to_le_bytes(x, s.as_mut_ptr(), s.len(), at) }
+}
+
+#[inline]
+pub fn u16_from_be_bytes(s: &[u8]) -> Answer<u16> {
+    unsafe { pb_u16_from_be_bytes(s.as_ptr(), s.len()) }
+}
+
+#[inline]
+pub fn u16_to_be_bytes(x: u16, s: &mut [u8], at: usize) -> bool {
+    unsafe { pb_u16_to_be_bytes(x, s.as_mut_ptr(), s.len(), at) }
+}
+
+#[inline]
+pub fn u16_read_decimal(s: &[u8], from: usize, to: usize) -> Answer<u16> {
+    unsafe { pb_u16_read_decimal(s.as_ptr(), s.len(), from, to) }
+}
+
+#[inline]
+pub fn u16_write_decimal(x: u16, s: &mut [u8], at: usize) -> Answer<usize> {
+    unsafe { pb_u16_write_decimal(x, s.as_mut_ptr(), s.len(), at) }
 }
 
 #[inline]
@@ -379,6 +436,26 @@ pub fn u32_to_le_bytes(x: u32, s: &mut [u8], at: usize) -> bool {
 }
 
 #[inline]
+pub fn u32_from_be_bytes(s: &[u8]) -> Answer<u32> {
+    unsafe { pb_u32_from_be_bytes(s.as_ptr(), s.len()) }
+}
+
+#[inline]
+pub fn u32_to_be_bytes(x: u32, s: &mut [u8], at: usize) -> bool {
+    unsafe { pb_u32_to_be_bytes(x, s.as_mut_ptr(), s.len(), at) }
+}
+
+#[inline]
+pub fn u32_read_decimal(s: &[u8], from: usize, to: usize) -> Answer<u32> {
+    unsafe { pb_u32_read_decimal(s.as_ptr(), s.len(), from, to) }
+}
+
+#[inline]
+pub fn u32_write_decimal(x: u32, s: &mut [u8], at: usize) -> Answer<usize> {
+    unsafe { pb_u32_write_decimal(x, s.as_mut_ptr(), s.len(), at) }
+}
+
+#[inline]
 pub fn u64_from_le_bytes(s: &[u8]) -> Answer<u64> {
     unsafe { pb_u64_from_le_bytes(s.as_ptr(), s.len()) }
 }
@@ -386,6 +463,86 @@ pub fn u64_from_le_bytes(s: &[u8]) -> Answer<u64> {
 #[inline]
 pub fn u64_to_le_bytes(x: u64, s: &mut [u8], at: usize) -> bool {
     unsafe { pb_u64_to_le_bytes(x, s.as_mut_ptr(), s.len(), at) }
+}
+
+#[inline]
+pub fn u64_from_be_bytes(s: &[u8]) -> Answer<u64> {
+    unsafe { pb_u64_from_be_bytes(s.as_ptr(), s.len()) }
+}
+
+#[inline]
+pub fn u64_to_be_bytes(x: u64, s: &mut [u8], at: usize) -> bool {
+    unsafe { pb_u64_to_be_bytes(x, s.as_mut_ptr(), s.len(), at) }
+}
+
+#[inline]
+pub fn u64_read_decimal(s: &[u8], from: usize, to: usize) -> Answer<u64> {
+    unsafe { pb_u64_read_decimal(s.as_ptr(), s.len(), from, to) }
+}
+
+#[inline]
+pub fn u64_write_decimal(x: u64, s: &mut [u8], at: usize) -> Answer<usize> {
+    unsafe { pb_u64_write_decimal(x, s.as_mut_ptr(), s.len(), at) }
+}
+
+#[inline]
+pub fn usize_read_decimal(s: &[u8], from: usize, to: usize) -> Answer<usize> {
+    unsafe { pb_usize_read_decimal(s.as_ptr(), s.len(), from, to) }
+}
+
+#[inline]
+pub fn usize_write_decimal(x: usize, s: &mut [u8], at: usize) -> Answer<usize> {
+    unsafe { pb_usize_write_decimal(x, s.as_mut_ptr(), s.len(), at) }
+}
+
+#[inline]
+pub fn i8_read_decimal(s: &[u8], from: usize, to: usize) -> Answer<i8> {
+    unsafe { pb_i8_read_decimal(s.as_ptr(), s.len(), from, to) }
+}
+
+#[inline]
+pub fn i8_write_decimal(x: i8, s: &mut [u8], at: usize) -> Answer<usize> {
+    unsafe { pb_i8_write_decimal(x, s.as_mut_ptr(), s.len(), at) }
+}
+
+#[inline]
+pub fn i16_read_decimal(s: &[u8], from: usize, to: usize) -> Answer<i16> {
+    unsafe { pb_i16_read_decimal(s.as_ptr(), s.len(), from, to) }
+}
+
+#[inline]
+pub fn i16_write_decimal(x: i16, s: &mut [u8], at: usize) -> Answer<usize> {
+    unsafe { pb_i16_write_decimal(x, s.as_mut_ptr(), s.len(), at) }
+}
+
+#[inline]
+pub fn i32_read_decimal(s: &[u8], from: usize, to: usize) -> Answer<i32> {
+    unsafe { pb_i32_read_decimal(s.as_ptr(), s.len(), from, to) }
+}
+
+#[inline]
+pub fn i32_write_decimal(x: i32, s: &mut [u8], at: usize) -> Answer<usize> {
+    unsafe { pb_i32_write_decimal(x, s.as_mut_ptr(), s.len(), at) }
+}
+
+#[inline]
+pub fn i64_read_decimal(s: &[u8], from: usize, to: usize) -> Answer<i64> {
+    unsafe { pb_i64_read_decimal(s.as_ptr(), s.len(), from, to) }
+}
+
+#[inline]
+pub fn i64_write_decimal(x: i64, s: &mut [u8], at: usize) -> Answer<usize> {
+    unsafe { pb_i64_write_decimal(x, s.as_mut_ptr(), s.len(), at) }
+}
+
+#[inline]
+pub fn isize_read_decimal(s: &[u8], from: usize, to: usize) -> Answer<isize> {
+    unsafe { pb_isize_read_decimal(s.as_ptr(), s.len(), from, to) }
+}
+
+#[inline]
+pub fn isize_write_decimal(x: isize, s: &mut [u8], at: usize) -> Answer<usize> {
+    unsafe { pb_isize_write_decimal(x, s.as_mut_ptr(), s.len(), at) }
 }
 
 #[inline]
@@ -511,4 +668,9 @@ pub fn text_split_at(s: &[u8], at: usize) -> TextSplit {
 #[inline]
 pub fn text_is_ascii(s: &[u8]) -> bool {
     unsafe { pb_text_is_ascii(s.as_ptr(), s.len()) }
+}
+
+#[inline]
+pub fn text_valid_up_to(s: &[u8]) -> usize {
+    unsafe { pb_text_valid_up_to(s.as_ptr(), s.len()) }
 }

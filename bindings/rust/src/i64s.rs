@@ -356,3 +356,64 @@ pub fn partial_cmp(x: i64, y: i64) -> Option<Ordering> {
     let answer = exported::pb_i64_partial_cmp(x, y);
     answer.ok.then_some(ordering(answer.value))
 }
+
+/// The number that the bytes of `s` from `from` up to and without `to` say in decimal: one figure or more from 0
+/// to 9, with '-' in front or without. Zeros in front are read, and '+' is not. Refused where they say no number,
+/// where it is not from -9223372036854775808 to 9223372036854775807, and where `to` is past the end.
+///
+/// ```
+/// use promisebook::i64s;
+/// assert_eq!(i64s::read_decimal(b"9223372036854775807", 0, 19), Some(9223372036854775807));
+/// assert_eq!(i64s::read_decimal(b"9223372036854775808", 0, 19), None);
+/// assert_eq!(i64s::read_decimal(b"-9223372036854775808", 0, 20), Some(-9223372036854775808));
+/// assert_eq!(i64s::read_decimal(b"-9223372036854775809", 0, 20), None);
+/// assert_eq!(i64s::read_decimal(b"007", 0, 3), Some(7));
+/// assert_eq!(i64s::read_decimal(b"-0", 0, 2), Some(0));
+/// assert_eq!(i64s::read_decimal(b"+5", 0, 2), None);
+/// assert_eq!(i64s::read_decimal(b"-", 0, 1), None);
+/// assert_eq!(i64s::read_decimal(b"", 0, 0), None);
+/// assert_eq!(i64s::read_decimal(b"n=42;", 2, 4), Some(42));
+/// assert_eq!(i64s::read_decimal(b"n=42;", 1, 4), None);
+/// assert_eq!(i64s::read_decimal(b"n=42;", 2, 6), None);
+/// assert_eq!(i64s::read_decimal(b"n=42;", 4, 2), None);
+/// ```
+#[inline]
+#[must_use]
+pub fn read_decimal(s: &[u8], from: usize, to: usize) -> Option<i64> {
+    let answer = exported::i64_read_decimal(s, from, to);
+    answer.ok.then_some(answer.value)
+}
+
+/// Writes `x` in decimal into `s` from the place `at` on, with no zero in front and '-' before a negative number,
+/// changes no other byte, and answers how many bytes it has written. Refused where they do not fit there.
+///
+/// ```
+/// use promisebook::i64s;
+/// let mut s = *b".....................";
+/// assert_eq!(i64s::write_decimal(9223372036854775807, &mut s, 1), Some(19));
+/// assert_eq!(s, *b".9223372036854775807.");
+/// let mut s = *b"......................";
+/// assert_eq!(i64s::write_decimal(-9223372036854775808, &mut s, 1), Some(20));
+/// assert_eq!(s, *b".-9223372036854775808.");
+/// let mut s = *b"..";
+/// assert_eq!(i64s::write_decimal(10, &mut s, 0), Some(2));
+/// assert_eq!(s, *b"10");
+/// let mut s = *b"...";
+/// assert_eq!(i64s::write_decimal(0, &mut s, 2), Some(1));
+/// assert_eq!(s, *b"..0");
+/// let mut s = *b"...................";
+/// assert_eq!(i64s::write_decimal(9223372036854775807, &mut s, 1), None);
+/// assert_eq!(s, *b"...................");
+/// let mut s = *b".";
+/// assert_eq!(i64s::write_decimal(10, &mut s, 0), None);
+/// assert_eq!(s, *b".");
+/// let mut s = *b".";
+/// assert_eq!(i64s::write_decimal(7, &mut s, 2), None);
+/// assert_eq!(s, *b".");
+/// ```
+#[inline]
+#[must_use]
+pub fn write_decimal(x: i64, s: &mut [u8], at: usize) -> Option<usize> {
+    let answer = exported::i64_write_decimal(x, s, at);
+    answer.ok.then_some(answer.value)
+}

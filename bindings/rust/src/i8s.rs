@@ -356,3 +356,64 @@ pub fn partial_cmp(x: i8, y: i8) -> Option<Ordering> {
     let answer = exported::pb_i8_partial_cmp(x, y);
     answer.ok.then_some(ordering(answer.value))
 }
+
+/// The number that the bytes of `s` from `from` up to and without `to` say in decimal: one figure or more from 0
+/// to 9, with '-' in front or without. Zeros in front are read, and '+' is not. Refused where they say no number,
+/// where it is not from -128 to 127, and where `to` is past the end.
+///
+/// ```
+/// use promisebook::i8s;
+/// assert_eq!(i8s::read_decimal(b"127", 0, 3), Some(127));
+/// assert_eq!(i8s::read_decimal(b"128", 0, 3), None);
+/// assert_eq!(i8s::read_decimal(b"-128", 0, 4), Some(-128));
+/// assert_eq!(i8s::read_decimal(b"-129", 0, 4), None);
+/// assert_eq!(i8s::read_decimal(b"007", 0, 3), Some(7));
+/// assert_eq!(i8s::read_decimal(b"-0", 0, 2), Some(0));
+/// assert_eq!(i8s::read_decimal(b"+5", 0, 2), None);
+/// assert_eq!(i8s::read_decimal(b"-", 0, 1), None);
+/// assert_eq!(i8s::read_decimal(b"", 0, 0), None);
+/// assert_eq!(i8s::read_decimal(b"n=42;", 2, 4), Some(42));
+/// assert_eq!(i8s::read_decimal(b"n=42;", 1, 4), None);
+/// assert_eq!(i8s::read_decimal(b"n=42;", 2, 6), None);
+/// assert_eq!(i8s::read_decimal(b"n=42;", 4, 2), None);
+/// ```
+#[inline]
+#[must_use]
+pub fn read_decimal(s: &[u8], from: usize, to: usize) -> Option<i8> {
+    let answer = exported::i8_read_decimal(s, from, to);
+    answer.ok.then_some(answer.value)
+}
+
+/// Writes `x` in decimal into `s` from the place `at` on, with no zero in front and '-' before a negative number,
+/// changes no other byte, and answers how many bytes it has written. Refused where they do not fit there.
+///
+/// ```
+/// use promisebook::i8s;
+/// let mut s = *b".....";
+/// assert_eq!(i8s::write_decimal(127, &mut s, 1), Some(3));
+/// assert_eq!(s, *b".127.");
+/// let mut s = *b"......";
+/// assert_eq!(i8s::write_decimal(-128, &mut s, 1), Some(4));
+/// assert_eq!(s, *b".-128.");
+/// let mut s = *b"..";
+/// assert_eq!(i8s::write_decimal(10, &mut s, 0), Some(2));
+/// assert_eq!(s, *b"10");
+/// let mut s = *b"...";
+/// assert_eq!(i8s::write_decimal(0, &mut s, 2), Some(1));
+/// assert_eq!(s, *b"..0");
+/// let mut s = *b"...";
+/// assert_eq!(i8s::write_decimal(127, &mut s, 1), None);
+/// assert_eq!(s, *b"...");
+/// let mut s = *b".";
+/// assert_eq!(i8s::write_decimal(10, &mut s, 0), None);
+/// assert_eq!(s, *b".");
+/// let mut s = *b".";
+/// assert_eq!(i8s::write_decimal(7, &mut s, 2), None);
+/// assert_eq!(s, *b".");
+/// ```
+#[inline]
+#[must_use]
+pub fn write_decimal(x: i8, s: &mut [u8], at: usize) -> Option<usize> {
+    let answer = exported::i8_write_decimal(x, s, at);
+    answer.ok.then_some(answer.value)
+}

@@ -2,12 +2,14 @@
 //! the standard library's. Written by generate/generate.py from the library's exports.
 //!
 //! Every function answers for all arguments, and none panics. "Refused" in a promise means `None`:
-//! a function that writes answers `Some(())`, or `None` and has written nothing.
+//! a function that writes answers `Some(())`, or how many bytes it has written, or `None` where it
+//! has written nothing.
 //!
 //! ```
 //! use promisebook::{bytes, i64s, text, u8s};
 //! assert_eq!(u8s::checked_add(200, 100), None);
 //! assert_eq!(i64s::checked_rem_euclid(-7, 3), Some(2));
+//! assert_eq!(i64s::read_decimal(b"-42", 0, 3), Some(-42));
 //! assert_eq!(bytes::contains(b"promise", 0, 7, b'm'), Some(true));
 //! assert!(!text::valid(&[0xc0, 0x80]));
 //! ```

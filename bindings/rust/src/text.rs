@@ -178,3 +178,19 @@ pub fn split_at(s: &[u8], at: usize) -> Option<Split> {
 pub fn is_ascii(s: &[u8]) -> bool {
     exported::text_is_ascii(s)
 }
+
+/// The length of the longest beginning of `s` that is valid UTF-8: of all of `s` where that is valid.
+///
+/// ```
+/// use promisebook::text;
+/// assert_eq!(text::valid_up_to("Aé€𐍈".as_bytes()), 10);
+/// assert_eq!(text::valid_up_to(&[0x41, 0xc3, 0xa9, 0xe2, 0x82, 0xac, 0xf0, 0x90, 0x8d]), 6);
+/// assert_eq!(text::valid_up_to(&[0x61, 0x62, 0xff]), 2);
+/// assert_eq!(text::valid_up_to(&[0x80]), 0);
+/// assert_eq!(text::valid_up_to(&[]), 0);
+/// ```
+#[inline]
+#[must_use]
+pub fn valid_up_to(s: &[u8]) -> usize {
+    exported::text_valid_up_to(s)
+}

@@ -490,3 +490,96 @@ pub fn trailing_zeros(i: u16) -> u32 {
 pub fn trailing_ones(i: u16) -> u32 {
     exported::pb_u16_trailing_ones(i)
 }
+
+/// The number whose 2 bytes are `s`, highest first. Refused where `s` has another length.
+///
+/// ```
+/// use promisebook::u16s;
+/// assert_eq!(u16s::from_be_bytes(&[1, 2]), Some(258));
+/// assert_eq!(u16s::from_be_bytes(&[2]), None);
+/// ```
+#[inline]
+#[must_use]
+pub fn from_be_bytes(s: &[u8]) -> Option<u16> {
+    let answer = exported::u16_from_be_bytes(s);
+    answer.ok.then_some(answer.value)
+}
+
+/// Writes the 2 bytes of `x` into `s` from the place `at` on, highest first, and changes no other byte. Refused
+/// where they do not fit there.
+///
+/// ```
+/// use promisebook::u16s;
+/// let mut s = [0, 0, 0];
+/// assert_eq!(u16s::to_be_bytes(258, &mut s, 1), Some(()));
+/// assert_eq!(s, [0, 1, 2]);
+/// let mut s = [0, 0, 0];
+/// assert_eq!(u16s::to_be_bytes(258, &mut s, 2), None);
+/// assert_eq!(s, [0, 0, 0]);
+/// ```
+#[inline]
+#[must_use]
+pub fn to_be_bytes(x: u16, s: &mut [u8], at: usize) -> Option<()> {
+    exported::u16_to_be_bytes(x, s, at).then_some(())
+}
+
+/// The number that the bytes of `s` from `from` up to and without `to` say in decimal: one figure or more from 0
+/// to 9, without a sign. Zeros in front are read, and '+' is not. Refused where they say no number, where it is
+/// not from 0 to 65535, and where `to` is past the end.
+///
+/// ```
+/// use promisebook::u16s;
+/// assert_eq!(u16s::read_decimal(b"65535", 0, 5), Some(65535));
+/// assert_eq!(u16s::read_decimal(b"65536", 0, 5), None);
+/// assert_eq!(u16s::read_decimal(b"0", 0, 1), Some(0));
+/// assert_eq!(u16s::read_decimal(b"-1", 0, 2), None);
+/// assert_eq!(u16s::read_decimal(b"007", 0, 3), Some(7));
+/// assert_eq!(u16s::read_decimal(b"-0", 0, 2), None);
+/// assert_eq!(u16s::read_decimal(b"+5", 0, 2), None);
+/// assert_eq!(u16s::read_decimal(b"-", 0, 1), None);
+/// assert_eq!(u16s::read_decimal(b"", 0, 0), None);
+/// assert_eq!(u16s::read_decimal(b"n=42;", 2, 4), Some(42));
+/// assert_eq!(u16s::read_decimal(b"n=42;", 1, 4), None);
+/// assert_eq!(u16s::read_decimal(b"n=42;", 2, 6), None);
+/// assert_eq!(u16s::read_decimal(b"n=42;", 4, 2), None);
+/// ```
+#[inline]
+#[must_use]
+pub fn read_decimal(s: &[u8], from: usize, to: usize) -> Option<u16> {
+    let answer = exported::u16_read_decimal(s, from, to);
+    answer.ok.then_some(answer.value)
+}
+
+/// Writes `x` in decimal into `s` from the place `at` on, with no zero in front, changes no other byte, and
+/// answers how many bytes it has written. Refused where they do not fit there.
+///
+/// ```
+/// use promisebook::u16s;
+/// let mut s = *b".......";
+/// assert_eq!(u16s::write_decimal(65535, &mut s, 1), Some(5));
+/// assert_eq!(s, *b".65535.");
+/// let mut s = *b"...";
+/// assert_eq!(u16s::write_decimal(0, &mut s, 1), Some(1));
+/// assert_eq!(s, *b".0.");
+/// let mut s = *b"..";
+/// assert_eq!(u16s::write_decimal(10, &mut s, 0), Some(2));
+/// assert_eq!(s, *b"10");
+/// let mut s = *b"...";
+/// assert_eq!(u16s::write_decimal(0, &mut s, 2), Some(1));
+/// assert_eq!(s, *b"..0");
+/// let mut s = *b".....";
+/// assert_eq!(u16s::write_decimal(65535, &mut s, 1), None);
+/// assert_eq!(s, *b".....");
+/// let mut s = *b".";
+/// assert_eq!(u16s::write_decimal(10, &mut s, 0), None);
+/// assert_eq!(s, *b".");
+/// let mut s = *b".";
+/// assert_eq!(u16s::write_decimal(7, &mut s, 2), None);
+/// assert_eq!(s, *b".");
+/// ```
+#[inline]
+#[must_use]
+pub fn write_decimal(x: u16, s: &mut [u8], at: usize) -> Option<usize> {
+    let answer = exported::u16_write_decimal(x, s, at);
+    answer.ok.then_some(answer.value)
+}

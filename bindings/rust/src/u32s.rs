@@ -490,3 +490,96 @@ pub fn trailing_zeros(i: u32) -> u32 {
 pub fn trailing_ones(i: u32) -> u32 {
     exported::pb_u32_trailing_ones(i)
 }
+
+/// The number whose 4 bytes are `s`, highest first. Refused where `s` has another length.
+///
+/// ```
+/// use promisebook::u32s;
+/// assert_eq!(u32s::from_be_bytes(&[1, 2, 3, 4]), Some(16909060));
+/// assert_eq!(u32s::from_be_bytes(&[2, 3, 4]), None);
+/// ```
+#[inline]
+#[must_use]
+pub fn from_be_bytes(s: &[u8]) -> Option<u32> {
+    let answer = exported::u32_from_be_bytes(s);
+    answer.ok.then_some(answer.value)
+}
+
+/// Writes the 4 bytes of `x` into `s` from the place `at` on, highest first, and changes no other byte. Refused
+/// where they do not fit there.
+///
+/// ```
+/// use promisebook::u32s;
+/// let mut s = [0, 0, 0, 0, 0];
+/// assert_eq!(u32s::to_be_bytes(16909060, &mut s, 1), Some(()));
+/// assert_eq!(s, [0, 1, 2, 3, 4]);
+/// let mut s = [0, 0, 0, 0, 0];
+/// assert_eq!(u32s::to_be_bytes(16909060, &mut s, 2), None);
+/// assert_eq!(s, [0, 0, 0, 0, 0]);
+/// ```
+#[inline]
+#[must_use]
+pub fn to_be_bytes(x: u32, s: &mut [u8], at: usize) -> Option<()> {
+    exported::u32_to_be_bytes(x, s, at).then_some(())
+}
+
+/// The number that the bytes of `s` from `from` up to and without `to` say in decimal: one figure or more from 0
+/// to 9, without a sign. Zeros in front are read, and '+' is not. Refused where they say no number, where it is
+/// not from 0 to 4294967295, and where `to` is past the end.
+///
+/// ```
+/// use promisebook::u32s;
+/// assert_eq!(u32s::read_decimal(b"4294967295", 0, 10), Some(4294967295));
+/// assert_eq!(u32s::read_decimal(b"4294967296", 0, 10), None);
+/// assert_eq!(u32s::read_decimal(b"0", 0, 1), Some(0));
+/// assert_eq!(u32s::read_decimal(b"-1", 0, 2), None);
+/// assert_eq!(u32s::read_decimal(b"007", 0, 3), Some(7));
+/// assert_eq!(u32s::read_decimal(b"-0", 0, 2), None);
+/// assert_eq!(u32s::read_decimal(b"+5", 0, 2), None);
+/// assert_eq!(u32s::read_decimal(b"-", 0, 1), None);
+/// assert_eq!(u32s::read_decimal(b"", 0, 0), None);
+/// assert_eq!(u32s::read_decimal(b"n=42;", 2, 4), Some(42));
+/// assert_eq!(u32s::read_decimal(b"n=42;", 1, 4), None);
+/// assert_eq!(u32s::read_decimal(b"n=42;", 2, 6), None);
+/// assert_eq!(u32s::read_decimal(b"n=42;", 4, 2), None);
+/// ```
+#[inline]
+#[must_use]
+pub fn read_decimal(s: &[u8], from: usize, to: usize) -> Option<u32> {
+    let answer = exported::u32_read_decimal(s, from, to);
+    answer.ok.then_some(answer.value)
+}
+
+/// Writes `x` in decimal into `s` from the place `at` on, with no zero in front, changes no other byte, and
+/// answers how many bytes it has written. Refused where they do not fit there.
+///
+/// ```
+/// use promisebook::u32s;
+/// let mut s = *b"............";
+/// assert_eq!(u32s::write_decimal(4294967295, &mut s, 1), Some(10));
+/// assert_eq!(s, *b".4294967295.");
+/// let mut s = *b"...";
+/// assert_eq!(u32s::write_decimal(0, &mut s, 1), Some(1));
+/// assert_eq!(s, *b".0.");
+/// let mut s = *b"..";
+/// assert_eq!(u32s::write_decimal(10, &mut s, 0), Some(2));
+/// assert_eq!(s, *b"10");
+/// let mut s = *b"...";
+/// assert_eq!(u32s::write_decimal(0, &mut s, 2), Some(1));
+/// assert_eq!(s, *b"..0");
+/// let mut s = *b"..........";
+/// assert_eq!(u32s::write_decimal(4294967295, &mut s, 1), None);
+/// assert_eq!(s, *b"..........");
+/// let mut s = *b".";
+/// assert_eq!(u32s::write_decimal(10, &mut s, 0), None);
+/// assert_eq!(s, *b".");
+/// let mut s = *b".";
+/// assert_eq!(u32s::write_decimal(7, &mut s, 2), None);
+/// assert_eq!(s, *b".");
+/// ```
+#[inline]
+#[must_use]
+pub fn write_decimal(x: u32, s: &mut [u8], at: usize) -> Option<usize> {
+    let answer = exported::u32_write_decimal(x, s, at);
+    answer.ok.then_some(answer.value)
+}

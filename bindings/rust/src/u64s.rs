@@ -491,3 +491,96 @@ pub fn trailing_zeros(i: u64) -> u32 {
 pub fn trailing_ones(i: u64) -> u32 {
     exported::pb_u64_trailing_ones(i)
 }
+
+/// The number whose 8 bytes are `s`, highest first. Refused where `s` has another length.
+///
+/// ```
+/// use promisebook::u64s;
+/// assert_eq!(u64s::from_be_bytes(&[1, 2, 3, 4, 5, 6, 7, 8]), Some(72623859790382856));
+/// assert_eq!(u64s::from_be_bytes(&[2, 3, 4, 5, 6, 7, 8]), None);
+/// ```
+#[inline]
+#[must_use]
+pub fn from_be_bytes(s: &[u8]) -> Option<u64> {
+    let answer = exported::u64_from_be_bytes(s);
+    answer.ok.then_some(answer.value)
+}
+
+/// Writes the 8 bytes of `x` into `s` from the place `at` on, highest first, and changes no other byte. Refused
+/// where they do not fit there.
+///
+/// ```
+/// use promisebook::u64s;
+/// let mut s = [0, 0, 0, 0, 0, 0, 0, 0, 0];
+/// assert_eq!(u64s::to_be_bytes(72623859790382856, &mut s, 1), Some(()));
+/// assert_eq!(s, [0, 1, 2, 3, 4, 5, 6, 7, 8]);
+/// let mut s = [0, 0, 0, 0, 0, 0, 0, 0, 0];
+/// assert_eq!(u64s::to_be_bytes(72623859790382856, &mut s, 2), None);
+/// assert_eq!(s, [0, 0, 0, 0, 0, 0, 0, 0, 0]);
+/// ```
+#[inline]
+#[must_use]
+pub fn to_be_bytes(x: u64, s: &mut [u8], at: usize) -> Option<()> {
+    exported::u64_to_be_bytes(x, s, at).then_some(())
+}
+
+/// The number that the bytes of `s` from `from` up to and without `to` say in decimal: one figure or more from 0
+/// to 9, without a sign. Zeros in front are read, and '+' is not. Refused where they say no number, where it is
+/// not from 0 to 18446744073709551615, and where `to` is past the end.
+///
+/// ```
+/// use promisebook::u64s;
+/// assert_eq!(u64s::read_decimal(b"18446744073709551615", 0, 20), Some(18446744073709551615));
+/// assert_eq!(u64s::read_decimal(b"18446744073709551616", 0, 20), None);
+/// assert_eq!(u64s::read_decimal(b"0", 0, 1), Some(0));
+/// assert_eq!(u64s::read_decimal(b"-1", 0, 2), None);
+/// assert_eq!(u64s::read_decimal(b"007", 0, 3), Some(7));
+/// assert_eq!(u64s::read_decimal(b"-0", 0, 2), None);
+/// assert_eq!(u64s::read_decimal(b"+5", 0, 2), None);
+/// assert_eq!(u64s::read_decimal(b"-", 0, 1), None);
+/// assert_eq!(u64s::read_decimal(b"", 0, 0), None);
+/// assert_eq!(u64s::read_decimal(b"n=42;", 2, 4), Some(42));
+/// assert_eq!(u64s::read_decimal(b"n=42;", 1, 4), None);
+/// assert_eq!(u64s::read_decimal(b"n=42;", 2, 6), None);
+/// assert_eq!(u64s::read_decimal(b"n=42;", 4, 2), None);
+/// ```
+#[inline]
+#[must_use]
+pub fn read_decimal(s: &[u8], from: usize, to: usize) -> Option<u64> {
+    let answer = exported::u64_read_decimal(s, from, to);
+    answer.ok.then_some(answer.value)
+}
+
+/// Writes `x` in decimal into `s` from the place `at` on, with no zero in front, changes no other byte, and
+/// answers how many bytes it has written. Refused where they do not fit there.
+///
+/// ```
+/// use promisebook::u64s;
+/// let mut s = *b"......................";
+/// assert_eq!(u64s::write_decimal(18446744073709551615, &mut s, 1), Some(20));
+/// assert_eq!(s, *b".18446744073709551615.");
+/// let mut s = *b"...";
+/// assert_eq!(u64s::write_decimal(0, &mut s, 1), Some(1));
+/// assert_eq!(s, *b".0.");
+/// let mut s = *b"..";
+/// assert_eq!(u64s::write_decimal(10, &mut s, 0), Some(2));
+/// assert_eq!(s, *b"10");
+/// let mut s = *b"...";
+/// assert_eq!(u64s::write_decimal(0, &mut s, 2), Some(1));
+/// assert_eq!(s, *b"..0");
+/// let mut s = *b"....................";
+/// assert_eq!(u64s::write_decimal(18446744073709551615, &mut s, 1), None);
+/// assert_eq!(s, *b"....................");
+/// let mut s = *b".";
+/// assert_eq!(u64s::write_decimal(10, &mut s, 0), None);
+/// assert_eq!(s, *b".");
+/// let mut s = *b".";
+/// assert_eq!(u64s::write_decimal(7, &mut s, 2), None);
+/// assert_eq!(s, *b".");
+/// ```
+#[inline]
+#[must_use]
+pub fn write_decimal(x: u64, s: &mut [u8], at: usize) -> Option<usize> {
+    let answer = exported::u64_write_decimal(x, s, at);
+    answer.ok.then_some(answer.value)
+}

@@ -458,3 +458,64 @@ pub fn trailing_zeros(i: u8) -> u32 {
 pub fn trailing_ones(i: u8) -> u32 {
     exported::pb_u8_trailing_ones(i)
 }
+
+/// The number that the bytes of `s` from `from` up to and without `to` say in decimal: one figure or more from 0
+/// to 9, without a sign. Zeros in front are read, and '+' is not. Refused where they say no number, where it is
+/// not from 0 to 255, and where `to` is past the end.
+///
+/// ```
+/// use promisebook::u8s;
+/// assert_eq!(u8s::read_decimal(b"255", 0, 3), Some(255));
+/// assert_eq!(u8s::read_decimal(b"256", 0, 3), None);
+/// assert_eq!(u8s::read_decimal(b"0", 0, 1), Some(0));
+/// assert_eq!(u8s::read_decimal(b"-1", 0, 2), None);
+/// assert_eq!(u8s::read_decimal(b"007", 0, 3), Some(7));
+/// assert_eq!(u8s::read_decimal(b"-0", 0, 2), None);
+/// assert_eq!(u8s::read_decimal(b"+5", 0, 2), None);
+/// assert_eq!(u8s::read_decimal(b"-", 0, 1), None);
+/// assert_eq!(u8s::read_decimal(b"", 0, 0), None);
+/// assert_eq!(u8s::read_decimal(b"n=42;", 2, 4), Some(42));
+/// assert_eq!(u8s::read_decimal(b"n=42;", 1, 4), None);
+/// assert_eq!(u8s::read_decimal(b"n=42;", 2, 6), None);
+/// assert_eq!(u8s::read_decimal(b"n=42;", 4, 2), None);
+/// ```
+#[inline]
+#[must_use]
+pub fn read_decimal(s: &[u8], from: usize, to: usize) -> Option<u8> {
+    let answer = exported::u8_read_decimal(s, from, to);
+    answer.ok.then_some(answer.value)
+}
+
+/// Writes `x` in decimal into `s` from the place `at` on, with no zero in front, changes no other byte, and
+/// answers how many bytes it has written. Refused where they do not fit there.
+///
+/// ```
+/// use promisebook::u8s;
+/// let mut s = *b".....";
+/// assert_eq!(u8s::write_decimal(255, &mut s, 1), Some(3));
+/// assert_eq!(s, *b".255.");
+/// let mut s = *b"...";
+/// assert_eq!(u8s::write_decimal(0, &mut s, 1), Some(1));
+/// assert_eq!(s, *b".0.");
+/// let mut s = *b"..";
+/// assert_eq!(u8s::write_decimal(10, &mut s, 0), Some(2));
+/// assert_eq!(s, *b"10");
+/// let mut s = *b"...";
+/// assert_eq!(u8s::write_decimal(0, &mut s, 2), Some(1));
+/// assert_eq!(s, *b"..0");
+/// let mut s = *b"...";
+/// assert_eq!(u8s::write_decimal(255, &mut s, 1), None);
+/// assert_eq!(s, *b"...");
+/// let mut s = *b".";
+/// assert_eq!(u8s::write_decimal(10, &mut s, 0), None);
+/// assert_eq!(s, *b".");
+/// let mut s = *b".";
+/// assert_eq!(u8s::write_decimal(7, &mut s, 2), None);
+/// assert_eq!(s, *b".");
+/// ```
+#[inline]
+#[must_use]
+pub fn write_decimal(x: u8, s: &mut [u8], at: usize) -> Option<usize> {
+    let answer = exported::u8_write_decimal(x, s, at);
+    answer.ok.then_some(answer.value)
+}

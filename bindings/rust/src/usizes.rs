@@ -399,3 +399,64 @@ pub fn partial_cmp(x: usize, y: usize) -> Option<Ordering> {
     let answer = exported::pb_usize_partial_cmp(x, y);
     answer.ok.then_some(ordering(answer.value))
 }
+
+/// The number that the bytes of `s` from `from` up to and without `to` say in decimal: one figure or more from 0
+/// to 9, without a sign. Zeros in front are read, and '+' is not. Refused where they say no number, where it is
+/// not from 0 to 18446744073709551615, and where `to` is past the end.
+///
+/// ```
+/// use promisebook::usizes;
+/// assert_eq!(usizes::read_decimal(b"18446744073709551615", 0, 20), Some(18446744073709551615));
+/// assert_eq!(usizes::read_decimal(b"18446744073709551616", 0, 20), None);
+/// assert_eq!(usizes::read_decimal(b"0", 0, 1), Some(0));
+/// assert_eq!(usizes::read_decimal(b"-1", 0, 2), None);
+/// assert_eq!(usizes::read_decimal(b"007", 0, 3), Some(7));
+/// assert_eq!(usizes::read_decimal(b"-0", 0, 2), None);
+/// assert_eq!(usizes::read_decimal(b"+5", 0, 2), None);
+/// assert_eq!(usizes::read_decimal(b"-", 0, 1), None);
+/// assert_eq!(usizes::read_decimal(b"", 0, 0), None);
+/// assert_eq!(usizes::read_decimal(b"n=42;", 2, 4), Some(42));
+/// assert_eq!(usizes::read_decimal(b"n=42;", 1, 4), None);
+/// assert_eq!(usizes::read_decimal(b"n=42;", 2, 6), None);
+/// assert_eq!(usizes::read_decimal(b"n=42;", 4, 2), None);
+/// ```
+#[inline]
+#[must_use]
+pub fn read_decimal(s: &[u8], from: usize, to: usize) -> Option<usize> {
+    let answer = exported::usize_read_decimal(s, from, to);
+    answer.ok.then_some(answer.value)
+}
+
+/// Writes `x` in decimal into `s` from the place `at` on, with no zero in front, changes no other byte, and
+/// answers how many bytes it has written. Refused where they do not fit there.
+///
+/// ```
+/// use promisebook::usizes;
+/// let mut s = *b"......................";
+/// assert_eq!(usizes::write_decimal(18446744073709551615, &mut s, 1), Some(20));
+/// assert_eq!(s, *b".18446744073709551615.");
+/// let mut s = *b"...";
+/// assert_eq!(usizes::write_decimal(0, &mut s, 1), Some(1));
+/// assert_eq!(s, *b".0.");
+/// let mut s = *b"..";
+/// assert_eq!(usizes::write_decimal(10, &mut s, 0), Some(2));
+/// assert_eq!(s, *b"10");
+/// let mut s = *b"...";
+/// assert_eq!(usizes::write_decimal(0, &mut s, 2), Some(1));
+/// assert_eq!(s, *b"..0");
+/// let mut s = *b"....................";
+/// assert_eq!(usizes::write_decimal(18446744073709551615, &mut s, 1), None);
+/// assert_eq!(s, *b"....................");
+/// let mut s = *b".";
+/// assert_eq!(usizes::write_decimal(10, &mut s, 0), None);
+/// assert_eq!(s, *b".");
+/// let mut s = *b".";
+/// assert_eq!(usizes::write_decimal(7, &mut s, 2), None);
+/// assert_eq!(s, *b".");
+/// ```
+#[inline]
+#[must_use]
+pub fn write_decimal(x: usize, s: &mut [u8], at: usize) -> Option<usize> {
+    let answer = exported::usize_write_decimal(x, s, at);
+    answer.ok.then_some(answer.value)
+}

@@ -58,6 +58,19 @@ zeros!(zeros_of_u16, u16s, u16::MIN..=u16::MAX);
 zeros!(zeros_of_u32, u32s, beside::of_u32::edges());
 zeros!(zeros_of_u64, u64s, beside::of_u64::edges());
 
+macro_rules! in_order {
+    ($module:ident $type:ident $x:ident $length:ident $at:ident $size:ident; $to:ident $from:ident) => {
+        let mut ours = [0xa5; 20];
+        let mut theirs = ours;
+        let written = promisebook::$module::$to($x, &mut ours[..$length], $at);
+        let place = theirs[..$length].get_mut($at..$at + $size);
+        assert_eq!(written, place.map(|bytes| bytes.copy_from_slice(&$x.$to())));
+        assert_eq!(ours, theirs, "{} of {} in {} bytes at {}", stringify!($to), $x, $length, $at);
+        let part = &ours[$at.min($length)..$length];
+        assert_eq!(promisebook::$module::$from(part), part.try_into().ok().map($type::$from));
+    };
+}
+
 macro_rules! bytes {
     ($name:ident, $module:ident, $type:ident) => {
         #[test]
@@ -66,14 +79,8 @@ macro_rules! bytes {
             for x in beside::$name::edges() {
                 for length in 0..20 {
                     for at in 0..22 {
-                        let mut ours = [0xa5; 20];
-                        let mut theirs = ours;
-                        let written = promisebook::$module::to_le_bytes(x, &mut ours[..length], at);
-                        let place = theirs[..length].get_mut(at..at + SIZE);
-                        assert_eq!(written, place.map(|bytes| bytes.copy_from_slice(&x.to_le_bytes())));
-                        assert_eq!(ours, theirs, "{x} in {length} bytes at {at}");
-                        let part = &ours[at.min(length)..length];
-                        assert_eq!(promisebook::$module::from_le_bytes(part), part.try_into().ok().map($type::from_le_bytes));
+                        in_order!($module $type x length at SIZE; to_le_bytes from_le_bytes);
+                        in_order!($module $type x length at SIZE; to_be_bytes from_be_bytes);
                     }
                 }
             }

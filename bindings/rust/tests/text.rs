@@ -51,6 +51,7 @@ fn end_of(part: Option<&[u8]>, first: bool) -> Option<Read> {
 fn whole(s: &[u8]) {
     let theirs = from_utf8(s).ok();
     assert_eq!(text::valid(s), theirs.is_some(), "{s:x?}");
+    assert_eq!(text::valid_up_to(s), from_utf8(s).map_or_else(|error| error.valid_up_to(), str::len), "{s:x?}");
     assert_eq!(text::is_ascii(s), s.is_ascii(), "{s:x?}");
     assert_eq!(text::count(s), theirs.map(|t| t.chars().count()), "{s:x?}");
 }
