@@ -46,7 +46,7 @@ fn scalars(random: &mut Random, from: u32, to: u32) -> String {
     (0..32).map(|_| scalar(random, from, to)).collect()
 }
 
-/// A text of at most so many bytes: of a MiB of pieces again and again, which no cache holds at the sizes that are timed.
+/// A text of at most so many bytes: a MiB of pieces, again and again.
 pub fn text(kind: Kind, size: usize) -> Vec<u8> {
     let mut random = Random::new();
     let mut pieces = String::new();
