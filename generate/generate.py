@@ -11,6 +11,7 @@ import glob
 import os
 import sys
 
+import bench
 import beyond
 import bindings
 import decimals
@@ -19,7 +20,7 @@ import integers
 import programs
 from templates import CRATES, read
 
-FAMILIES = [integers, digits, decimals, beyond, programs]
+FAMILIES = [integers, digits, decimals, beyond, programs, bench]
 
 
 def stored(made):
