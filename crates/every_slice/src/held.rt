@@ -26,7 +26,7 @@ fn verdict_is(r: slices::Verdict, ok: bool, v: bool) -> bool {
     }
 }
 
-fn range_is(r: slices::Range, ok: bool, from: usize, to: usize) -> bool {
+fn range_is(r: slices_parts::Range, ok: bool, from: usize, to: usize) -> bool {
     if ok {
         r.ok & (r.from == from) & (r.to == to)
     } else {
@@ -59,7 +59,7 @@ fn elements(s: &[u8], f: usize, t: usize, i: usize) -> bool {
 }
 
 fn split_right(s: &[u8], f: usize, t: usize, m: usize) -> bool {
-    let r = slices::split_at(s, f, t, m);
+    let r = slices_parts::split_at(s, f, t, m);
     if is_part(s, f, t) & (m <= minus(t, f)) {
         r.ok & (r.from == f) & (r.middle == plus(f, m)) & (r.to == t)
     } else {
@@ -77,7 +77,7 @@ fn split_first_right(s: &[u8], f: usize, t: usize) -> bool {
 }
 
 fn sub_slice_right(s: &[u8], f: usize, t: usize) -> bool {
-    let p = slices::sub_slice(s, f, t);
+    let p = slices_parts::sub_slice(s, f, t);
     let n = p.len();
     if is_part(s, f, t) {
         (n == minus(t, f)) & agree(p, 0, s, f, n)
@@ -89,13 +89,13 @@ fn sub_slice_right(s: &[u8], f: usize, t: usize) -> bool {
 fn parts(s: &[u8], f: usize, t: usize, a: usize, e: usize) -> bool {
     let ok = is_part(s, f, t);
     range_is(
-        slices::sub_range(s, f, t, a, e),
+        slices_parts::sub_range(s, f, t, a, e),
         ok & (a <= e) & (e <= minus(t, f)),
         plus(f, a),
         plus(f, e),
     )
         & range_is(
-            slices::next_piece(s, f, t, a),
+            slices_parts::next_piece(s, f, t, a),
             ok & (f < t) & (0 < a),
             f,
             least(plus(f, a), t),
@@ -166,7 +166,7 @@ pub fn reverses(old: &[u8], f: usize, t: usize) -> bool {
     let mut space = [0u8; 300];
     let new = &mut space[0..n];
     fill(new, old);
-    let ok = slices_mut::reverse(new, f, t);
+    let ok = slices_reverse::reverse(new, f, t);
     left(ok, is_part(old, f, t), Change::Turned, old, new, f, t, old)
 }
 
@@ -178,7 +178,7 @@ pub fn copies_within(old: &[u8], f: usize, t: usize, place: usize) -> bool {
     let mut space = [0u8; 300];
     let new = &mut space[0..n];
     fill(new, old);
-    let ok = slices_mut::copy_within(new, f, t, place);
+    let ok = slices_move::copy_within(new, f, t, place);
     let must = is_part(old, f, t) & (plus(place, minus(t, f)) <= old.len());
     left(ok, must, Change::CopiedTo(place), old, new, f, t, old)
 }

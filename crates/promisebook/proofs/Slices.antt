@@ -1,4 +1,4 @@
--- The contracts of slices and slices_mut keep vstd's clauses, and these pin their answers.
+-- The contracts of the crates of slices keep vstd's clauses, and these pin their answers.
 use mathlib.Core.Path.{_≡_, refl, sym, ap, _∙_}
 use mathlib.Core.Bool.{Bool, true, false}
 use mathlib.Core.List.{List, [], _∷_, reverse}

@@ -53,17 +53,22 @@ pub extern "C" fn pb_bytes_sub_range(
     to: usize,
     a: usize,
     e: usize,
-) -> slices::Range
+) -> slices_parts::Range
     ensures { λ r. ⌜ (Within from to (now (s .entry)) → a ≤ e → e ≤ to - from → (r .ok ≡ true) × Subrange (part from to (now (s .entry))) a e (part (r .from) (r .to) (now (s .entry)))) ⌝ }
 {
-    slices::sub_range(s, from, to, a, e)
+    slices_parts::sub_range(s, from, to, a, e)
 }
 
 #[no_mangle]
-pub extern "C" fn pb_bytes_split_at(s: &[u8], from: usize, to: usize, m: usize) -> slices::Split
+pub extern "C" fn pb_bytes_split_at(
+    s: &[u8],
+    from: usize,
+    to: usize,
+    m: usize,
+) -> slices_parts::Split
     ensures { λ r. ⌜ (Within from to (now (s .entry)) → SplitAt (r .ok) (part (r .from) (r .middle) (now (s .entry))) (part (r .middle) (r .to) (now (s .entry))) (part from to (now (s .entry))) m) ⌝ }
 {
-    slices::split_at(s, from, to, m)
+    slices_parts::split_at(s, from, to, m)
 }
 
 #[no_mangle]
@@ -75,10 +80,15 @@ pub extern "C" fn pb_bytes_split_first(s: &[u8], from: usize, to: usize) -> slic
 
 // The first of vstd's chunks, from which the others follow.
 #[no_mangle]
-pub extern "C" fn pb_bytes_next_piece(s: &[u8], from: usize, to: usize, n: usize) -> slices::Range
+pub extern "C" fn pb_bytes_next_piece(
+    s: &[u8],
+    from: usize,
+    to: usize,
+    n: usize,
+) -> slices_parts::Range
     ensures { λ r. ⌜ (Within from to (now (s .entry)) → from < to → 0 < n → (r .ok ≡ true) × Subrange (part from to (now (s .entry))) 0 (min n (to - from)) (part (r .from) (r .to) (now (s .entry)))) ⌝ }
 {
-    slices::next_piece(s, from, to, n)
+    slices_parts::next_piece(s, from, to, n)
 }
 
 // ---- comparing
@@ -134,7 +144,7 @@ pub extern "C" fn pb_bytes_set(s: &mut [u8], from: usize, to: usize, i: usize, v
 pub extern "C" fn pb_bytes_reverse(s: &mut [u8], from: usize, to: usize) -> bool
     ensures { λ r. ⌜ (Within from to (now (s .entry)) → (r ≡ true) × PartReplaced (now (s .entry)) (now (s .exit)) from to (reverse (part from to (now (s .entry)))) × Reversed (part from to (now (s .entry))) (reverse (part from to (now (s .entry))))) ⌝ }
 {
-    slices_mut::reverse(s, from, to)
+    slices_reverse::reverse(s, from, to)
 }
 
 #[no_mangle]
@@ -148,5 +158,5 @@ pub extern "C" fn pb_bytes_copy_from(s: &mut [u8], from: usize, to: usize, other
 pub extern "C" fn pb_bytes_copy_within(s: &mut [u8], from: usize, to: usize, at: usize) -> bool
     ensures { λ r. ⌜ (Within from to (now (s .entry)) → at + (to - from) ≤ length (now (s .entry)) → (r ≡ true) × CopiedWithin (now (s .entry)) from to at (now (s .exit))) ⌝ }
 {
-    slices_mut::copy_within(s, from, to, at)
+    slices_move::copy_within(s, from, to, at)
 }

@@ -1,0 +1,49 @@
+use borrow.Author.Needs.{needs}
+use native.Mathlib.Omega.{arith}
+use mathlib.Core.Path.{_≡_, refl, _∙_}
+use Prim.Native.Nat.{_+_, _-_, _≤_}
+use lib.ListN.{length}
+use Rattle.theory_lists.specs.Part.{part}
+use Rattle.theory_lists.specs.Written.{written}
+use Rattle.theory_lists.proofs.Moved.{moved-none, moved-up}
+use Rattle.slices_move.proofs.move_from_front.Statement.{statement}
+use Rattle.slices_move.proofs.move_from_front.Tie as tie
+
+abbrev Inv-loop : tie.InvT-loop
+Inv-loop d₀ from to at i₀ k₀ d i k =
+    (from ≤ i) × (i ≤ to) × (k ≡ at + (i - from)) × (length d ≡ length d₀) × (d ≡ written d₀ at (part from i d₀))
+
+abbrev μ-loop : tie.MeasureT-loop
+μ-loop d₀ from to at i₀ k₀ d i k = to - i
+
+loop-holds : tie.Need-loop-holds Inv-loop μ-loop
+loop-holds c = (omega arith, omega arith, omega arith, refl, moved-none (c .before .args .d .now) (c .before .args .from) (c .before .args .at))
+
+loop-again : tie.Need-loop-again Inv-loop μ-loop
+loop-again c =
+    let a = c .before .before .before .before .before .before .before .args in
+    let l = c .before .before .before .before .before .loop in
+    (omega arith, omega arith, omega arith, search needs, c .before .before .move-few .ensures ∙ moved-up (a .d .now) (a .from) (l .i) (l .i + 64) (a .at) (omega arith) (omega arith) (omega arith) (omega arith) (l .d) (l .k) (l .inv .2) (l .inv .4))
+
+returns : tie.Need-returns Inv-loop μ-loop
+returns c =
+    let a = c .before .before .before .before .before .before .before .args in
+    let l = c .before .before .before .before .before .loop in
+    c .before .before .move-few2 .ensures ∙ moved-up (a .d .now) (a .from) (l .i) (a .to) (a .at) (omega arith) (omega arith) (omega arith) (omega arith) (l .d) (l .k) (l .inv .2) (l .inv .4)
+
+pub move-from-front-spec : {M : Type 1} → statement M
+move-from-front-spec =
+    tie.close
+    (tie.spec
+    Inv-loop
+    μ-loop
+    loop-holds
+    (λ c. search needs)
+    (λ c. search needs)
+    (λ c κs. search needs)
+    (λ c. search needs)
+    (λ c. search needs)
+    loop-again
+    (λ c κs. search needs)
+    (λ c. search needs)
+    returns)
