@@ -3,19 +3,23 @@ use mathlib.Core.Path.{_≡_, refl, sym, ap, _∙_}
 use mathlib.Core.Bool.{true, false}
 use mathlib.Core.Logic.{_⊎_, inl, inr}
 use Prim.Native.Nat.{ℕ, zero, suc, _+_, _*_, _/_, _^_, _≤_, _<_}
-use native.Mathlib.Nat.{mul-div-cancel-left, zero-div}
+use native.Mathlib.Nat.{mul-div-cancel-left, zero-div, div-mul-le-self, mul-comm}
 use native.Mathlib.Omega.{arith}
+use lib.Dec.{ltb}
 use lib.Pow.{pow-pos}
+use borrow.Author.Tests.{ltb-true, ltb-false}
 use lib.IntN.{ℤ, pos, negsuc, negℤ, natAbs, _+ℤ_, _-ℤ_, _*ℤ_, *ℤ-comm}
 use lib.Signed.{quotZ, remZ}
-use Rattle.theory_whole.specs.Kind.{signed}
+use Rattle.theory_whole.specs.Kind.{unsigned, signed}
 use Rattle.theory_whole.specs.Fit.{wrap, refuse, Answers}
-use Rattle.theory_whole.proofs.Halves.{up, down, by-halves, sum, difference}
+use Rattle.theory_whole.proofs.Halves.{up, down, by-halves, same-halves, sum, difference}
+use Rattle.theory_whole.proofs.Cases.{by-test}
 use Rattle.theory_whole.proofs.Alike.{Alike, alike-itself, alike-same, alike-then, alike-minus}
-use Rattle.theory_whole.proofs.Fits.{In, Out, real-signed, in-or-out}
+use Rattle.theory_whole.proofs.Fits.{In, Out, real-unsigned, real-signed, in-or-out}
 use Rattle.theory_whole.proofs.Wrap.{one-of-kind, wrap-in, wrap-alike, wrap-same}
 use Rattle.theory_whole.proofs.Refuse.{accepts, refuses}
 use Rattle.theory_whole.proofs.Divisions.{truncated}
+use Rattle.theory_whole.proofs.Unsigned.{in-unsigned, unsigned-below, natural-fits, natural-over, positive}
 
 -- ---- a product by its first factor
 
@@ -71,3 +75,24 @@ module _ (w : ℕ) (a b p : ℤ) (i : In (signed w) a) (some : 0 < natAbs a) (e 
       go : In (signed w) (a *ℤ b) ⊎ Out (signed w) (a *ℤ b) → Out (signed w) (a *ℤ b)
       go (inr o) = o
       go (inl j) = absurd (n (ap (λ (x : ℤ). quotZ x a) (e ∙ sym (wrap-same (real-signed w) (a *ℤ b) j)) ∙ product-by-factor a b some))
+
+-- ---- the same without signs, where the quotient alone bounds the product
+
+module _ (w a b p : ℕ) (some : a ≡ 0 → ⊥) (e : pos p ≡ wrap (unsigned w) (pos a *ℤ pos b)) where
+  product-is : a * b < 2 ^ w → p ≡ a * b
+  product-is h =
+      let s = same-halves (e ∙ sym (wrap-same (real-unsigned w) (pos (a * b)) (in-unsigned w h))) in
+      omega arith
+
+  pub natural-quotient-is-factor : p / a ≡ b → Answers true (pos p) (refuse (unsigned w) (pos a *ℤ pos b))
+  natural-quotient-is-factor q =
+      let under : p < 2 ^ w = unsigned-below w (rw e (wrap-in (real-unsigned w) (pos a *ℤ pos b))) in
+      let l : b * a ≤ p = (rw q at (div-mul-le-self p a)) in
+      let h : a * b < 2 ^ w = omega (arith, l, under, mul-comm a b) in
+      rw (← product-is h) (natural-fits w (omega (arith, product-is h, h)))
+
+  pub natural-quotient-is-other : (p / a ≡ b → ⊥) → Answers false (pos 0) (refuse (unsigned w) (pos a *ℤ pos b))
+  natural-quotient-is-other n =
+      by-test (ltb (a * b) (2 ^ w))
+      (λ t. absurd (n (ap (λ (x : ℕ). x / a) (product-is (ltb-true (a * b) (2 ^ w) t)) ∙ mul-div-cancel-left b (positive a some))))
+      (λ t. natural-over w (ltb-false (a * b) (2 ^ w) t))

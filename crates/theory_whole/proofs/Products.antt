@@ -21,13 +21,6 @@ product-below i j {a} {b} p q =
 pub times-zero : (a : ℕ) {b : ℕ} → b ≡ 0 → a * b ≡ 0
 times-zero a e = rw e (mul-zero a)
 
-module _ (w : ℕ) {a b : ℕ} (n : b ≡ 0 → ⊥) where
-  pub product-fits : a ≤ (2 ^ w - 1) / b → a * b < 2 ^ w
-  product-fits h = let l : a * b ≤ 2 ^ w - 1 = le-div-iff-mul-le (positive b n) .0 h in omega (arith, pow-pos w)
-
-  pub product-over : (2 ^ w - 1) / b < a → 2 ^ w ≤ a * b
-  product-over h = let l : 2 ^ w - 1 < a * b = div-lt-iff-lt-mul (positive b n) .0 h in omega (arith, pow-pos w)
-
 -- ---- halves of h bits
 pub high-half : (h : ℕ) {a : ℕ} → a < 2 ^ (h + h) → a / 2 ^ h < 2 ^ h
 high-half h {a} l = div-lt-iff-lt-mul (pow-pos h) .1 (subst (λ (n : ℕ). a < n) (pow-add 2 h h) l)

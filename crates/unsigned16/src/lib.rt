@@ -122,21 +122,23 @@ pub fn checked_sub(a: u16, b: u16) -> Checked
     }
 }
 
+// Told by dividing again, which becomes the overflow flag.
 pub fn checked_mul(a: u16, b: u16) -> Checked
     ensures { λ r. ⌜ Answers (r .ok) (pos (r .value)) (refuse (unsigned 16) (pos a *ℤ pos b)) ⌝ }
 {
-    if b == 0 {
+    if a == 0 {
         return Checked { ok: true, value: 0 };
     }
-    if u16::MAX / b < a {
+    let product = wrapping_mul(a, b);
+    if product / a == b {
         Checked {
-            ok: false,
-            value: 0,
+            ok: true,
+            value: product,
         }
     } else {
         Checked {
-            ok: true,
-            value: a * b,
+            ok: false,
+            value: 0,
         }
     }
 }

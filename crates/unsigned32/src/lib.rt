@@ -122,21 +122,23 @@ pub fn checked_sub(a: u32, b: u32) -> Checked
     }
 }
 
+// Told by dividing again, which becomes the overflow flag.
 pub fn checked_mul(a: u32, b: u32) -> Checked
     ensures { λ r. ⌜ Answers (r .ok) (pos (r .value)) (refuse (unsigned 32) (pos a *ℤ pos b)) ⌝ }
 {
-    if b == 0 {
+    if a == 0 {
         return Checked { ok: true, value: 0 };
     }
-    if u32::MAX / b < a {
+    let product = wrapping_mul(a, b);
+    if product / a == b {
         Checked {
-            ok: false,
-            value: 0,
+            ok: true,
+            value: product,
         }
     } else {
         Checked {
-            ok: true,
-            value: a * b,
+            ok: false,
+            value: 0,
         }
     }
 }

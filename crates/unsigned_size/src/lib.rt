@@ -128,21 +128,23 @@ pub fn checked_sub(a: usize, b: usize) -> Checked
     }
 }
 
+// Told by dividing again, which becomes the overflow flag.
 pub fn checked_mul(a: usize, b: usize) -> Checked
     ensures { λ r. ⌜ Answers (r .ok) (pos (r .value)) (refuse (unsigned 64) (pos a *ℤ pos b)) ⌝ }
 {
-    if b == 0 {
+    if a == 0 {
         return Checked { ok: true, value: 0 };
     }
-    if usize::MAX / b < a {
+    let product = wrapping_mul(a, b);
+    if product / a == b {
         Checked {
-            ok: false,
-            value: 0,
+            ok: true,
+            value: product,
         }
     } else {
         Checked {
-            ok: true,
-            value: a * b,
+            ok: false,
+            value: 0,
         }
     }
 }

@@ -1,21 +1,20 @@
 use borrow.Author.Needs.{needs}
+use native.Mathlib.Nat.{mul-comm}
 use native.Mathlib.Omega.{arith}
-use Rattle.theory_whole.proofs.Products.{product-fits, product-over, times-zero}
-use Rattle.theory_whole.proofs.Unsigned.{natural-fits, natural-over}
+use Rattle.theory_whole.proofs.Products.{times-zero}
+use Rattle.theory_whole.proofs.Unsigned.{natural-fits}
+use Rattle.theory_whole.proofs.ByQuotient.{natural-quotient-is-factor, natural-quotient-is-other}
 use Rattle.unsigned32.proofs.checked_mul.Statement.{statement}
 use Rattle.unsigned32.proofs.checked_mul.Tie as tie
 
 returns : tie.Need-returns
-returns c = rw (times-zero (c .before .args .a) (c .if1 .taken)) (natural-fits 32 (omega arith))
-
-mul-t6 : tie.Need-mul-t6
-mul-t6 c = record { fits = product-fits 32 (c .before .if1 .left) (c .if2 .left) }
+returns c = rw (mul-comm (c .before .args .a) (c .before .args .b), times-zero (c .before .args .b) (c .if1 .taken)) (natural-fits 32 (omega arith))
 
 returns-2 : tie.Need-returns-2
-returns-2 c = natural-over 32 (product-over 32 (c .before .if1 .left) (c .if2 .taken))
+returns-2 c = natural-quotient-is-factor 32 _ _ _ (c .before .before .if1 .left) (c .before .wrapping-mul .ensures) (c .if2 .taken)
 
 returns-3 : tie.Need-returns-3
-returns-3 c = natural-fits 32 (product-fits 32 (c .before .if1 .left) (c .if2 .left))
+returns-3 c = natural-quotient-is-other 32 _ _ _ (c .before .before .if1 .left) (c .before .wrapping-mul .ensures) (c .if2 .left)
 
 pub checked-mul-spec : {M : Type 1} → statement M
-checked-mul-spec = tie.close (tie.spec returns (λ c. search needs) mul-t6 returns-2 returns-3)
+checked-mul-spec = tie.close (tie.spec returns (λ c κs. search needs) (λ c. search needs) returns-2 returns-3)
