@@ -163,7 +163,7 @@ fn first_and_rest(found: slices::FirstAndRest, out: &mut [u8], at: usize) -> usi
     }
 }
 
-fn range(found: slices::Range, out: &mut [u8], at: usize) -> usize {
+fn range(found: slices_parts::Range, out: &mut [u8], at: usize) -> usize {
     if found.ok {
         answers::pair(out, at, found.from as u64, found.to as u64)
     } else {
@@ -171,7 +171,7 @@ fn range(found: slices::Range, out: &mut [u8], at: usize) -> usize {
     }
 }
 
-fn split(found: slices::Split, out: &mut [u8], at: usize) -> usize {
+fn split(found: slices_parts::Split, out: &mut [u8], at: usize) -> usize {
     if found.ok {
         answers::triple(
             out,
