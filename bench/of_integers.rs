@@ -32,15 +32,38 @@ macro_rules! fold {
     }};
 }
 
-/// The rows of a kind. Sums of parts of the range are refused now and then. A product is not, since 0, the value of a refusal, would stay: its factors are
-/// 1, the other sign's where there is one, and few of 2.
+/// A row: the same, by an operation that may refuse, where the loop ends.
+macro_rules! fold_checked {
+    ($bench:ident, $operation:literal, $ours:ident, $kind:ident, $xs:expr, $start:literal, $checked:ident) => {{
+        extern "C" {
+            fn $ours(xs: *const $kind, size: usize) -> $kind;
+        }
+        #[inline(never)]
+        fn rust(xs: &[$kind]) -> $kind {
+            let mut so_far: $kind = $start;
+            for &x in xs {
+                match so_far.$checked(x) {
+                    Some(next) => so_far = next,
+                    None => return 0,
+                }
+            }
+            so_far
+        }
+        let xs: &[$kind] = $xs;
+        let name = concat!(stringify!($kind), " ", $operation);
+        $bench.row(name, xs.len(), || unsafe { $ours(xs.as_ptr(), xs.len()) }, || rust(black_box(xs)));
+    }};
+}
+
+/// The rows of a kind. No sum or product is refused, so that the loops go to their ends: the summands are small, and the factors 1, the other sign's where there is
+/// one, and few of 2.
 macro_rules! integers {
-    ($bench:ident, $kind:ident, $part:literal, $other_one:literal, $checked_add:ident, $checked_mul:ident, $wrapping_add:ident, $wrapping_mul:ident) => {{
-        let parts = numbers(|x, _| x as $kind / $part);
+    ($bench:ident, $kind:ident, $other_one:literal, $checked_add:ident, $checked_mul:ident, $wrapping_add:ident, $wrapping_mul:ident) => {{
+        let parts = numbers(|x, _| x as $kind / 8192);
         let factors = numbers(|x, at| if at % 256 == 0 { 2 } else if x % 2 == 0 { 1 } else { $other_one });
         let odd = numbers(|x, _| x as $kind | 1);
-        fold!($bench, "checked_add", $checked_add, $kind => $kind, &parts, 0, |sum: $kind, x| sum.checked_add(x).unwrap_or(0));
-        fold!($bench, "checked_mul", $checked_mul, $kind => $kind, &factors, 1, |product: $kind, x| product.checked_mul(x).unwrap_or(0));
+        fold_checked!($bench, "checked_add", $checked_add, $kind, &parts, 0, checked_add);
+        fold_checked!($bench, "checked_mul", $checked_mul, $kind, &factors, 1, checked_mul);
         fold!($bench, "wrapping_add", $wrapping_add, $kind => $kind, &odd, 0, $kind::wrapping_add);
         fold!($bench, "wrapping_mul", $wrapping_mul, $kind => $kind, &odd, 1, $kind::wrapping_mul);
     }};
@@ -88,10 +111,10 @@ macro_rules! bytes {
 }
 
 pub fn rows(bench: &mut Bench) {
-    integers!(bench, u32, 512, 1, loop_u32_checked_add, loop_u32_checked_mul, loop_u32_wrapping_add, loop_u32_wrapping_mul);
-    integers!(bench, u64, 512, 1, loop_u64_checked_add, loop_u64_checked_mul, loop_u64_wrapping_add, loop_u64_wrapping_mul);
-    integers!(bench, i32, 8, -1, loop_i32_checked_add, loop_i32_checked_mul, loop_i32_wrapping_add, loop_i32_wrapping_mul);
-    integers!(bench, i64, 8, -1, loop_i64_checked_add, loop_i64_checked_mul, loop_i64_wrapping_add, loop_i64_wrapping_mul);
+    integers!(bench, u32, 1, loop_u32_checked_add, loop_u32_checked_mul, loop_u32_wrapping_add, loop_u32_wrapping_mul);
+    integers!(bench, u64, 1, loop_u64_checked_add, loop_u64_checked_mul, loop_u64_wrapping_add, loop_u64_wrapping_mul);
+    integers!(bench, i32, -1, loop_i32_checked_add, loop_i32_checked_mul, loop_i32_wrapping_add, loop_i32_wrapping_mul);
+    integers!(bench, i64, -1, loop_i64_checked_add, loop_i64_checked_mul, loop_i64_wrapping_add, loop_i64_wrapping_mul);
     saturating!(bench, u32, loop_u32_saturating_add, loop_u32_saturating_mul);
     saturating!(bench, u64, loop_u64_saturating_add, loop_u64_saturating_mul);
     let lengths = numbers(|x, at| if at % 256 == 0 { 0 } else { x >> (x % 64) << (at % 32) });

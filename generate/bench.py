@@ -15,7 +15,8 @@ KINDS = [("i32", "signed32"), ("i64", "signed64"), ("u32", "unsigned32"), ("u64"
 def parts():
     for kind, crate in KINDS:
         table = {"KIND": kind, "OWN": crate}
-        yield "integer", table
+        yield "checked", table
+        yield "wrapping", table
         if kind.startswith("u"):
             yield "saturating", table
     for part in ("zeros", "from_bytes", "to_bytes"):

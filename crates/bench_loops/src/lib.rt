@@ -6,7 +6,11 @@
 pub extern "C" fn loop_i32_checked_add(xs: &[i32]) -> i32 {
     let mut sum: i32 = 0;
     for i in 0..xs.len() {
-        sum = signed32::checked_add(sum, xs[i]).value;
+        let next = signed32::checked_add(sum, xs[i]);
+        if !next.ok {
+            return 0;
+        }
+        sum = next.value;
     }
     sum
 }
@@ -15,7 +19,11 @@ pub extern "C" fn loop_i32_checked_add(xs: &[i32]) -> i32 {
 pub extern "C" fn loop_i32_checked_mul(xs: &[i32]) -> i32 {
     let mut product: i32 = 1;
     for i in 0..xs.len() {
-        product = signed32::checked_mul(product, xs[i]).value;
+        let next = signed32::checked_mul(product, xs[i]);
+        if !next.ok {
+            return 0;
+        }
+        product = next.value;
     }
     product
 }
@@ -44,7 +52,11 @@ pub extern "C" fn loop_i32_wrapping_mul(xs: &[i32]) -> i32 {
 pub extern "C" fn loop_i64_checked_add(xs: &[i64]) -> i64 {
     let mut sum: i64 = 0;
     for i in 0..xs.len() {
-        sum = signed64::checked_add(sum, xs[i]).value;
+        let next = signed64::checked_add(sum, xs[i]);
+        if !next.ok {
+            return 0;
+        }
+        sum = next.value;
     }
     sum
 }
@@ -53,7 +65,11 @@ pub extern "C" fn loop_i64_checked_add(xs: &[i64]) -> i64 {
 pub extern "C" fn loop_i64_checked_mul(xs: &[i64]) -> i64 {
     let mut product: i64 = 1;
     for i in 0..xs.len() {
-        product = signed64::checked_mul(product, xs[i]).value;
+        let next = signed64::checked_mul(product, xs[i]);
+        if !next.ok {
+            return 0;
+        }
+        product = next.value;
     }
     product
 }
@@ -82,7 +98,11 @@ pub extern "C" fn loop_i64_wrapping_mul(xs: &[i64]) -> i64 {
 pub extern "C" fn loop_u32_checked_add(xs: &[u32]) -> u32 {
     let mut sum: u32 = 0;
     for i in 0..xs.len() {
-        sum = unsigned32::checked_add(sum, xs[i]).value;
+        let next = unsigned32::checked_add(sum, xs[i]);
+        if !next.ok {
+            return 0;
+        }
+        sum = next.value;
     }
     sum
 }
@@ -91,7 +111,11 @@ pub extern "C" fn loop_u32_checked_add(xs: &[u32]) -> u32 {
 pub extern "C" fn loop_u32_checked_mul(xs: &[u32]) -> u32 {
     let mut product: u32 = 1;
     for i in 0..xs.len() {
-        product = unsigned32::checked_mul(product, xs[i]).value;
+        let next = unsigned32::checked_mul(product, xs[i]);
+        if !next.ok {
+            return 0;
+        }
+        product = next.value;
     }
     product
 }
@@ -138,7 +162,11 @@ pub extern "C" fn loop_u32_saturating_mul(xs: &[u32]) -> u32 {
 pub extern "C" fn loop_u64_checked_add(xs: &[u64]) -> u64 {
     let mut sum: u64 = 0;
     for i in 0..xs.len() {
-        sum = unsigned64::checked_add(sum, xs[i]).value;
+        let next = unsigned64::checked_add(sum, xs[i]);
+        if !next.ok {
+            return 0;
+        }
+        sum = next.value;
     }
     sum
 }
@@ -147,7 +175,11 @@ pub extern "C" fn loop_u64_checked_add(xs: &[u64]) -> u64 {
 pub extern "C" fn loop_u64_checked_mul(xs: &[u64]) -> u64 {
     let mut product: u64 = 1;
     for i in 0..xs.len() {
-        product = unsigned64::checked_mul(product, xs[i]).value;
+        let next = unsigned64::checked_mul(product, xs[i]);
+        if !next.ok {
+            return 0;
+        }
+        product = next.value;
     }
     product
 }
