@@ -26,7 +26,7 @@ pub fn answer() {
 fn reply(ok: bool, line: &[u8]) {
     let help = promises_slices::pb_bytes_equal(line, 0, line.len(), b"--help");
     if help.value {
-        crate::help::show();
+        crate::help::print();
     } else {
         one_line(ok, line);
     }

@@ -3,13 +3,8 @@ use crate::bytes;
 use crate::digits;
 use crate::integers;
 use crate::places;
-use libc::STDOUT_FILENO;
 
-fn say(words: &[u8]) {
-    io::write_all(STDOUT_FILENO, words);
-}
-
-pub fn show() {
+pub fn print() {
     how_to_ask();
     legend_of_integers();
     list(UNSIGNED, &integers::NAMES);
@@ -21,32 +16,32 @@ pub fn show() {
 }
 
 fn how_to_ask() {
-    say(
+    show::text(
         b"Answers questions about the library's operations: one line for each line of standard input,\nor one line for the arguments.\n\n",
     );
-    say(
+    show::text(
         b"    ask u8.wrapping_add 200 100      44\n    ask i8.checked_div -128 -1       refused\n    ask bytes.reverse 010203 0 2     020103\n\n",
     );
-    say(
+    show::text(
         b"A question is a name and its arguments, with single spaces between. A number is decimal, bytes are\ntwo lowercase hex digits each, and - is no bytes. The answer is the value, or a word:\n\n",
     );
-    say(
+    show::text(
         b"    refused      the operation refuses these arguments\n    unknown      there is no such name\n    malformed    the arguments are not those that the name takes\n",
     );
 }
 
 fn legend_of_integers() {
-    say(
+    show::text(
         b"\nT: u8 u16 u32 u64 usize. S: i8 i16 i32 i64 isize. U: u8 u16 u32 u64. W: u16 u32 u64.\n",
     );
-    say(
+    show::text(
         b"x, y: numbers of the type, y one of the other sign where the name ends in that sign. d: a u32. b: bytes.\n\n",
     );
 }
 
 fn legend_of_bytes() {
-    say(b"\nb f t: bytes, and the part of them from place f up to and without place t.\n");
-    say(
+    show::text(b"\nb f t: bytes, and the part of them from place f up to and without place t.\n");
+    show::text(
         b"a, at, e, i, m, n: numbers (usize); a, e, i and m are counted from f where there is one. v: a u8.\nc: a u32. other: bytes.\n\n",
     );
 }
@@ -88,9 +83,9 @@ fn line(group: u8, operation: u8, names: &[u8], from: usize, to: usize) {
     }
     if has(group, operation) {
         types(group, operation);
-        say(&names[from..to]);
+        show::text(&names[from..to]);
         takes(group, operation);
-        say(b"\n");
+        show::text(b"\n");
     }
 }
 
@@ -104,19 +99,19 @@ fn has(group: u8, operation: u8) -> bool {
 
 fn types(group: u8, operation: u8) {
     match group {
-        UNSIGNED => say(b"    T."),
-        SIGNED => say(b"    S."),
+        UNSIGNED => show::text(b"    T."),
+        SIGNED => show::text(b"    S."),
         DIGITS => widths(operation),
-        BYTES => say(b"    bytes."),
-        _ => say(b"    text."),
+        BYTES => show::text(b"    bytes."),
+        _ => show::text(b"    text."),
     }
 }
 
 fn widths(operation: u8) {
     if digits::has(numbered::U8, operation) {
-        say(b"    U.");
+        show::text(b"    U.");
     } else {
-        say(b"    W.");
+        show::text(b"    W.");
     }
 }
 
@@ -133,39 +128,39 @@ fn takes(group: u8, operation: u8) {
 
 fn two_numbers(operation: u8) {
     if numbered::is_shift(operation) {
-        say(b" x d");
+        show::text(b" x d");
     } else {
-        say(b" x y");
+        show::text(b" x y");
     }
 }
 
 fn number_or_bytes(operation: u8) {
     match operation {
-        digits::FROM_LE_BYTES | digits::FROM_BE_BYTES => say(b" b"),
-        _ => say(b" x"),
+        digits::FROM_LE_BYTES | digits::FROM_BE_BYTES => show::text(b" b"),
+        _ => show::text(b" x"),
     }
 }
 
 fn part(operation: u8) {
-    say(b" b f t");
+    show::text(b" b f t");
     match operation {
         bytes::LEN..=bytes::REVERSE => {}
-        bytes::GET => say(b" i"),
-        bytes::SPLIT_AT => say(b" m"),
-        bytes::COPY_WITHIN => say(b" at"),
-        bytes::NEXT_PIECE => say(b" n"),
-        bytes::SUB_RANGE => say(b" a e"),
-        bytes::CONTAINS => say(b" v"),
-        _ => say(b" other"),
+        bytes::GET => show::text(b" i"),
+        bytes::SPLIT_AT => show::text(b" m"),
+        bytes::COPY_WITHIN => show::text(b" at"),
+        bytes::NEXT_PIECE => show::text(b" n"),
+        bytes::SUB_RANGE => show::text(b" a e"),
+        bytes::CONTAINS => show::text(b" v"),
+        _ => show::text(b" other"),
     }
 }
 
 fn of_text(operation: u8) {
     match operation {
-        crate::text::SCALAR_LEN | crate::text::IS_WHITE_SPACE => say(b" c"),
-        crate::text::IS_BOUNDARY | crate::text::SPLIT_AT => say(b" b i"),
-        crate::text::READ_FIRST | crate::text::READ_LAST => say(b" b f t"),
-        crate::text::WRITE => say(b" b at c"),
-        _ => say(b" b"),
+        crate::text::SCALAR_LEN | crate::text::IS_WHITE_SPACE => show::text(b" c"),
+        crate::text::IS_BOUNDARY | crate::text::SPLIT_AT => show::text(b" b i"),
+        crate::text::READ_FIRST | crate::text::READ_LAST => show::text(b" b f t"),
+        crate::text::WRITE => show::text(b" b at c"),
+        _ => show::text(b" b"),
     }
 }

@@ -70,11 +70,12 @@ pub fn wrapping_shr(a: i16, distance: u32) -> i16
 
 // ---- checked sums and differences
 
-// A number of 64 bits as one of 16. Behind a sum or a difference of two, this test becomes the overflow flag.
-pub fn narrowed(z: i64) -> Checked
-    ensures { λ r. ⌜ Answers (r .ok) (r .value) (refuse (signed 16) z) ⌝ }
+// Made in 64 bits and tested once: together that becomes the overflow flag.
+pub fn checked_add(a: i16, b: i16) -> Checked
+    ensures { λ r. ⌜ Answers (r .ok) (r .value) (refuse (signed 16) (a +ℤ b)) ⌝ }
 {
-    if 65536 <= unsigned64::wrapping_add_signed(32768, z) {
+    let sum = (a as i64) + (b as i64);
+    if 65536 <= unsigned64::wrapped(sum + 32768) {
         Checked {
             ok: false,
             value: 0,
@@ -82,15 +83,9 @@ pub fn narrowed(z: i64) -> Checked
     } else {
         Checked {
             ok: true,
-            value: z as i16,
+            value: sum as i16,
         }
     }
-}
-
-pub fn checked_add(a: i16, b: i16) -> Checked
-    ensures { λ r. ⌜ Answers (r .ok) (r .value) (refuse (signed 16) (a +ℤ b)) ⌝ }
-{
-    narrowed((a as i64) + (b as i64))
 }
 
 pub fn checked_add_unsigned(a: i16, b: u16) -> Checked
@@ -113,7 +108,18 @@ pub fn checked_add_unsigned(a: i16, b: u16) -> Checked
 pub fn checked_sub(a: i16, b: i16) -> Checked
     ensures { λ r. ⌜ Answers (r .ok) (r .value) (refuse (signed 16) (a -ℤ b)) ⌝ }
 {
-    narrowed((a as i64) - (b as i64))
+    let difference = (a as i64) - (b as i64);
+    if 65536 <= unsigned64::wrapped(difference + 32768) {
+        Checked {
+            ok: false,
+            value: 0,
+        }
+    } else {
+        Checked {
+            ok: true,
+            value: difference as i16,
+        }
+    }
 }
 
 pub fn checked_sub_unsigned(a: i16, b: u16) -> Checked

@@ -74,11 +74,12 @@ pub fn wrapping_shr(a: i32, distance: u32) -> i32
 
 // ---- checked sums and differences
 
-// A number of 64 bits as one of 32. Behind a sum or a difference of two, this test becomes the overflow flag.
-pub fn narrowed(z: i64) -> Checked
-    ensures { λ r. ⌜ Answers (r .ok) (r .value) (refuse (signed 32) z) ⌝ }
+// Made in 64 bits and tested once: together that becomes the overflow flag.
+pub fn checked_add(a: i32, b: i32) -> Checked
+    ensures { λ r. ⌜ Answers (r .ok) (r .value) (refuse (signed 32) (a +ℤ b)) ⌝ }
 {
-    if 4294967296 <= unsigned64::wrapping_add_signed(2147483648, z) {
+    let sum = (a as i64) + (b as i64);
+    if 4294967296 <= unsigned64::wrapped(sum + 2147483648) {
         Checked {
             ok: false,
             value: 0,
@@ -86,15 +87,9 @@ pub fn narrowed(z: i64) -> Checked
     } else {
         Checked {
             ok: true,
-            value: z as i32,
+            value: sum as i32,
         }
     }
-}
-
-pub fn checked_add(a: i32, b: i32) -> Checked
-    ensures { λ r. ⌜ Answers (r .ok) (r .value) (refuse (signed 32) (a +ℤ b)) ⌝ }
-{
-    narrowed((a as i64) + (b as i64))
 }
 
 pub fn checked_add_unsigned(a: i32, b: u32) -> Checked
@@ -117,7 +112,18 @@ pub fn checked_add_unsigned(a: i32, b: u32) -> Checked
 pub fn checked_sub(a: i32, b: i32) -> Checked
     ensures { λ r. ⌜ Answers (r .ok) (r .value) (refuse (signed 32) (a -ℤ b)) ⌝ }
 {
-    narrowed((a as i64) - (b as i64))
+    let difference = (a as i64) - (b as i64);
+    if 4294967296 <= unsigned64::wrapped(difference + 2147483648) {
+        Checked {
+            ok: false,
+            value: 0,
+        }
+    } else {
+        Checked {
+            ok: true,
+            value: difference as i32,
+        }
+    }
 }
 
 pub fn checked_sub_unsigned(a: i32, b: u32) -> Checked

@@ -70,11 +70,12 @@ pub fn wrapping_shr(a: i8, distance: u32) -> i8
 
 // ---- checked sums and differences
 
-// A number of 64 bits as one of 8. Behind a sum or a difference of two, this test becomes the overflow flag.
-pub fn narrowed(z: i64) -> Checked
-    ensures { λ r. ⌜ Answers (r .ok) (r .value) (refuse (signed 8) z) ⌝ }
+// Made in 64 bits and tested once: together that becomes the overflow flag.
+pub fn checked_add(a: i8, b: i8) -> Checked
+    ensures { λ r. ⌜ Answers (r .ok) (r .value) (refuse (signed 8) (a +ℤ b)) ⌝ }
 {
-    if 256 <= unsigned64::wrapping_add_signed(128, z) {
+    let sum = (a as i64) + (b as i64);
+    if 256 <= unsigned64::wrapped(sum + 128) {
         Checked {
             ok: false,
             value: 0,
@@ -82,15 +83,9 @@ pub fn narrowed(z: i64) -> Checked
     } else {
         Checked {
             ok: true,
-            value: z as i8,
+            value: sum as i8,
         }
     }
-}
-
-pub fn checked_add(a: i8, b: i8) -> Checked
-    ensures { λ r. ⌜ Answers (r .ok) (r .value) (refuse (signed 8) (a +ℤ b)) ⌝ }
-{
-    narrowed((a as i64) + (b as i64))
 }
 
 pub fn checked_add_unsigned(a: i8, b: u8) -> Checked
@@ -113,7 +108,18 @@ pub fn checked_add_unsigned(a: i8, b: u8) -> Checked
 pub fn checked_sub(a: i8, b: i8) -> Checked
     ensures { λ r. ⌜ Answers (r .ok) (r .value) (refuse (signed 8) (a -ℤ b)) ⌝ }
 {
-    narrowed((a as i64) - (b as i64))
+    let difference = (a as i64) - (b as i64);
+    if 256 <= unsigned64::wrapped(difference + 128) {
+        Checked {
+            ok: false,
+            value: 0,
+        }
+    } else {
+        Checked {
+            ok: true,
+            value: difference as i8,
+        }
+    }
 }
 
 pub fn checked_sub_unsigned(a: i8, b: u8) -> Checked
