@@ -63,7 +63,7 @@ pub fn read_u64(s: &[u8], from: usize, to: usize) -> unsigned64::Checked
             value: 0,
         };
     }
-    if to <= from {
+    if from >= to {
         return unsigned64::Checked {
             ok: false,
             value: 0,
