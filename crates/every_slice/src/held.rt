@@ -191,7 +191,7 @@ pub fn copies_from(old: &[u8], f: usize, t: usize, other: &[u8]) -> bool {
     let mut space = [0u8; 300];
     let new = &mut space[0..n];
     fill(new, old);
-    let ok = slices_mut::copy_from(new, f, t, other);
+    let ok = slices_copy::copy_from(new, f, t, other);
     let must = is_part(old, f, t) & (minus(t, f) == other.len());
     left(ok, must, Change::Replaced, old, new, f, t, other)
 }

@@ -151,7 +151,7 @@ pub extern "C" fn pb_bytes_reverse(s: &mut [u8], from: usize, to: usize) -> bool
 pub extern "C" fn pb_bytes_copy_from(s: &mut [u8], from: usize, to: usize, other: &[u8]) -> bool
     ensures { λ r. ⌜ (Within from to (now (s .entry)) → length (now (other .entry)) ≡ to - from → (r ≡ true) × PartReplaced (now (s .entry)) (now (s .exit)) from to (now (other .entry))) ⌝ }
 {
-    slices_mut::copy_from(s, from, to, other)
+    slices_copy::copy_from(s, from, to, other)
 }
 
 #[no_mangle]

@@ -2,8 +2,8 @@
 // past the end) and then writes nothing; what it writes it names, and every other byte is as it was (`written`).
 ghost use mathlib.Core.Path.{_≡_};
 ghost use mathlib.Core.List.{_∷_, []};
-ghost use Prim.Native.Nat.{_+_, _-_, _<_};
-ghost use lib.ListN.{length};
+ghost use Prim.Native.Nat.{_+_, _-_, _≤_, _<_};
+ghost use lib.ListN.{length, take};
 ghost use Rattle.theory_lists.specs.Says.{Outcome};
 ghost use Rattle.theory_lists.specs.Part.{Within};
 ghost use Rattle.theory_lists.specs.Written.{written};
@@ -21,7 +21,7 @@ fn copy(d: &mut [u8], s: &[u8])
 }
 
 // s into the part from..to of d.
-fn put(d: &mut [u8], from: usize, to: usize, s: &[u8])
+fn store(d: &mut [u8], from: usize, to: usize, s: &[u8])
     requires { ⌜ Within from to (now d) × (length (now s) ≡ to - from) ⌝ }
     ensures { λ _. ⌜ now (d .exit) ≡ written (now (d .entry)) from (now (s .entry)) ⌝ }
 {
@@ -47,7 +47,8 @@ pub fn set(s: &mut [u8], from: usize, to: usize, i: usize, v: u8) -> bool
     true
 }
 
-pub fn copy_from(s: &mut [u8], from: usize, to: usize, other: &[u8]) -> bool
+// The bytes of other, one by one, become the part: the plain form of `slices_copy::copy_from`.
+pub fn put(s: &mut [u8], from: usize, to: usize, other: &[u8]) -> bool
     ensures { λ r. ⌜ Outcome r (Within from to (now (s .entry)) × (length (now (other .entry)) ≡ to - from)) (now (s .exit) ≡ written (now (s .entry)) from (now (other .entry))) (now (s .exit) ≡ now (s .entry)) ⌝ }
 {
     if to < from {
@@ -59,6 +60,16 @@ pub fn copy_from(s: &mut [u8], from: usize, to: usize, other: &[u8]) -> bool
     if other.len() != to - from {
         return false;
     }
-    put(s, from, to, other);
+    store(s, from, to, other);
     true
+}
+
+// The bytes of s at the front of an array; of more than 64, none.
+pub fn held(s: &[u8]) -> [u8; 64]
+    ensures { λ r. ⌜ (length (now (s .entry)) ≤ 64 → (64 ≡ length r) × (take (length (now (s .entry))) r ≡ now (s .entry))) ⌝ }
+{
+    let n = s.len();
+    let mut bytes = [0u8; 64];
+    put(&mut bytes, 0, n, s);
+    bytes
 }

@@ -1,4 +1,4 @@
-// Reversing the part from..to of a slice of bytes, by blocks of 32 bytes from both ends.
+// Reversing the part from..to of a slice of bytes, from both ends: eight bytes and eight change places, and what is left one and one.
 ghost use mathlib.Core.Path.{_≡_};
 ghost use mathlib.Core.List.{reverse};
 ghost use Prim.Native.Nat.{_+_, _-_, _≤_};
@@ -6,8 +6,6 @@ ghost use lib.ListN.{length, take};
 ghost use Rattle.theory_lists.specs.Says.{Outcome};
 ghost use Rattle.theory_lists.specs.Part.{part, Within};
 ghost use Rattle.theory_lists.specs.Written.{written};
-
-// ---- a few bytes, all read before any is written
 
 // One slice into another of the same length, the other way round.
 fn turn(d: &mut [u8], s: &[u8])
@@ -33,29 +31,18 @@ fn turned(s: &[u8]) -> [u8; 64]
     bytes
 }
 
-fn turn_few(d: &mut [u8], from: usize, to: usize)
-    requires { ⌜ Within from to (now d) × (to - from ≤ 64) ⌝ }
-    ensures { λ _. ⌜ now (d .exit) ≡ written (now (d .entry)) from (reverse (part from to (now (d .entry)))) ⌝ }
+// So many bytes from `from` on and as many before `to` change places, each the other way round.
+fn exchange(d: &mut [u8], from: usize, to: usize, size: usize)
+    requires { ⌜ (size ≤ 64) × (from + size + size ≤ to) × (to ≤ length (now d)) ⌝ }
+    ensures { λ _. ⌜ now (d .exit) ≡ written (written (now (d .entry)) from (reverse (part (to - size) to (now (d .entry))))) (to - size) (reverse (part from (from + size) (now (d .entry)))) ⌝ }
 {
-    let n = to - from;
-    let bytes = turned(&d[from..to]);
-    slices_mut::copy_from(d, from, to, &bytes[..n]);
-}
-
-// The 32 bytes from `from` on and the 32 before `to` change places, each the other way round.
-fn exchange(d: &mut [u8], from: usize, to: usize)
-    requires { ⌜ (from + 32 + 32 ≤ to) × (to ≤ length (now d)) ⌝ }
-    ensures { λ _. ⌜ now (d .exit) ≡ written (written (now (d .entry)) from (reverse (part (to - 32) to (now (d .entry))))) (to - 32) (reverse (part from (from + 32) (now (d .entry)))) ⌝ }
-{
-    let next = from + 32;
-    let last = to - 32;
+    let next = from + size;
+    let last = to - size;
     let front = turned(&d[from..next]);
     let back = turned(&d[last..to]);
-    slices_mut::copy_from(d, from, next, &back[..32]);
-    slices_mut::copy_from(d, last, to, &front[..32]);
+    slices_mut::put(d, from, next, &back[..size]);
+    slices_mut::put(d, last, to, &front[..size]);
 }
-
-// ---- any number of bytes, by blocks
 
 fn turn_part(d: &mut [u8], from: usize, to: usize)
     requires { ⌜ Within from to (now d) ⌝ }
@@ -63,12 +50,16 @@ fn turn_part(d: &mut [u8], from: usize, to: usize)
 {
     let mut i = from;
     let mut j = to;
-    while 64 <= j - i {
-        exchange(d, i, j);
-        i += 32;
-        j -= 32;
+    while 16 <= j - i {
+        exchange(d, i, j, 8);
+        i += 8;
+        j -= 8;
     }
-    turn_few(d, i, j);
+    while 2 <= j - i {
+        exchange(d, i, j, 1);
+        i += 1;
+        j -= 1;
+    }
 }
 
 // ---- the operation: true; or refused, where from and to are not the ends of a part, and nothing is written

@@ -1,63 +1,69 @@
-// Bytes below 0x80, 64 at a time.
+// Bytes below 0x80, by blocks of a size that the compiler knows.
 ghost use mathlib.Core.Path.{_≡_};
 ghost use mathlib.Core.Bool.{true};
 ghost use Prim.Native.Nat.{_+_, _≤_, _<_};
-ghost use lib.ListN.{length, getD};
+ghost use lib.ListN.{length};
 ghost use Rattle.theory_lists.specs.Says.{Says};
 ghost use Rattle.theory_text.specs.Ascii.{AsciiIn, Ascii, AsciiRun};
 
-fn all64(s: &[u8], from: usize) -> bool
-    requires { ⌜ from + 64 ≤ length (now s) ⌝ }
-    ensures { λ r. ⌜ (r ≡ true → AsciiIn (now (s .entry)) from (from + 64)) ⌝ }
+// Every byte is looked at, so that many are looked at at once.
+fn all(s: &[u8]) -> bool
+    ensures { λ r. ⌜ Says r (Ascii (now (s .entry))) ⌝ }
 {
-    let end = from + 64;
     let mut all = true;
-    let mut i = from;
-    while i < end {
+    let mut i = 0;
+    while i < s.len() {
         all = all & (s[i] < 0x80);
         i += 1;
     }
     all
 }
 
-// True only where 64 bytes from a place on are there and ASCII.
-pub fn ascii_block(s: &[u8], from: usize) -> bool
-    ensures { λ r. ⌜ (r ≡ true → (from + 64 ≤ length (now (s .entry))) × AsciiIn (now (s .entry)) from (from + 64)) ⌝ }
+// By blocks of `size` bytes, of which the last may begin inside the one before.
+fn all_by(s: &[u8], size: usize) -> bool
+    requires { ⌜ (0 < size) × (size ≤ length (now s)) ⌝ }
+    ensures { λ r. ⌜ Says r (Ascii (now (s .entry))) ⌝ }
 {
-    if s.len() < 64 {
-        return false;
+    let last = s.len() - size;
+    let mut i = 0;
+    while i < last {
+        let next = i + size;
+        if !all(&s[i..next]) {
+            return false;
+        }
+        i = next;
     }
-    if s.len() - 64 < from {
-        return false;
-    }
-    all64(s, from)
+    all(&s[last..])
 }
 
-fn all16(s: &[u8], from: usize) -> bool
-    requires { ⌜ from + 16 ≤ length (now s) ⌝ }
-    ensures { λ r. ⌜ (r ≡ true → AsciiIn (now (s .entry)) from (from + 16)) ⌝ }
+pub fn is_ascii(s: &[u8]) -> bool
+    ensures { λ r. ⌜ Says r (Ascii (now (s .entry))) ⌝ }
 {
-    let end = from + 16;
-    let mut all = true;
-    let mut i = from;
-    while i < end {
-        all = all & (s[i] < 0x80);
-        i += 1;
+    let n = s.len();
+    if 64 <= n {
+        return all_by(&s[..], 64);
     }
-    all
+    if 16 <= n {
+        return all_by(&s[..], 16);
+    }
+    if 8 <= n {
+        return all_by(&s[..], 8);
+    }
+    all(&s[..])
 }
 
-// The same for 16 bytes, a quarter of a block.
-pub fn ascii_quarter(s: &[u8], from: usize) -> bool
-    ensures { λ r. ⌜ (r ≡ true → (from + 16 ≤ length (now (s .entry))) × AsciiIn (now (s .entry)) from (from + 16)) ⌝ }
+// True only where `size` bytes from a place on are there and ASCII.
+pub fn ascii_block(s: &[u8], from: usize, size: usize) -> bool
+    ensures { λ r. ⌜ (r ≡ true → (from + size ≤ length (now (s .entry))) × AsciiIn (now (s .entry)) from (from + size)) ⌝ }
 {
-    if s.len() < 16 {
+    if s.len() < size {
         return false;
     }
-    if s.len() - 16 < from {
+    if s.len() - size < from {
         return false;
     }
-    all16(s, from)
+    let to = from + size;
+    all(&s[from..to])
 }
 
 // The first place from `from` on where no ASCII stands, or the end.
@@ -65,7 +71,7 @@ pub fn ascii_from(s: &[u8], from: usize) -> usize
     ensures { λ r. ⌜ AsciiRun (now (s .entry)) from r ⌝ }
 {
     let mut i = from;
-    while ascii_block(s, i) {
+    while ascii_block(s, i, 64) {
         i += 64;
     }
     while i < s.len() {
@@ -75,13 +81,4 @@ pub fn ascii_from(s: &[u8], from: usize) -> usize
         i += 1;
     }
     i
-}
-
-pub fn is_ascii(s: &[u8]) -> bool
-    ensures { λ r. ⌜ Says r (Ascii (now (s .entry))) ⌝ }
-{
-    if ascii_from(s, 0) == s.len() {
-        return true;
-    }
-    false
 }

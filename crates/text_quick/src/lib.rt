@@ -38,7 +38,7 @@ fn quarter(t: &[u64; 256], s: &[u8], from: usize, x: u64) -> u64
     ensures { λ r. ⌜ Moves (now (s .entry)) from 16 x r ⌝ }
 {
     if x % 64 == 0 {
-        if text_ascii::ascii_quarter(s, from) {
+        if text_ascii::ascii_block(s, from, 16) {
             return 0;
         }
     }
@@ -51,7 +51,7 @@ fn block(t: &[u64; 256], s: &[u8], from: usize, x: u64) -> u64
     ensures { λ r. ⌜ Moves (now (s .entry)) from 64 x r ⌝ }
 {
     if x % 64 == 0 {
-        if text_ascii::ascii_block(s, from) {
+        if text_ascii::ascii_block(s, from, 64) {
             return 0;
         }
     }

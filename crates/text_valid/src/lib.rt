@@ -64,6 +64,9 @@ pub fn valid_up_to(s: &[u8]) -> usize
     ensures { λ r. ⌜ r ≡ validTo (now (s .entry)) ⌝ }
 {
     if s.len() < 64 {
+        if text_ascii::is_ascii(s) {
+            return s.len();
+        }
         return walk_from(s, 0);
     }
     walk_from(s, text_quick::text_before(s))

@@ -1,15 +1,15 @@
 -- The other way round: by index, and by ends that change places.
-use mathlib.Core.Path.{_≡_, sym, ap, _∙_}
+use mathlib.Core.Path.{_≡_, refl, sym, ap, _∙_}
 use mathlib.Core.List.{List, [], _∷_, _++_, reverse, reverse-cons, reverse-append, append-assoc}
 use Prim.Native.Nat.{ℕ, zero, suc, _+_, _-_, _≤_, _<_}
 use native.Mathlib.Decide.{decLt}
 use native.Mathlib.Omega.{arith}
 use lib.ListN.{length, getD, length-append, length-reverse, List·getD-append}
 use lib.Seq.{getD-at}
-use Rattle.theory_lists.specs.Part.{part}
+use Rattle.theory_lists.specs.Part.{part, Within}
 use Rattle.theory_lists.specs.Written.{written}
 use Rattle.theory_lists.proofs.Part.{length-part, part-append, part-whole}
-use Rattle.theory_lists.proofs.Written.{length-written, written-all, written-twice-up, written-twice-down, part-after-written, part-before-written}
+use Rattle.theory_lists.proofs.Written.{length-written, written-all, written-same, written-twice-up, written-twice-down, part-after-written, part-before-written}
 
 pub getD-reverse : (s : List ℕ) (k : ℕ) → k < length s → getD (reverse s) k 0 ≡ getD s (length s - 1 - k) 0
 getD-reverse [] k h = absurd (omega arith)
@@ -26,6 +26,16 @@ getD-reverse (x ∷ xs) k h = rw reverse-cons (go (getD-reverse xs k) (decLt k (
 -- s with the part from f to t the other way round
 unfoldable pub reversed : ℕ → ℕ → List ℕ → List ℕ
 reversed f t s = written s f (reverse (part f t s))
+
+-- at most one element stays
+reverse-few : (x : List ℕ) → length x < 2 → reverse x ≡ x
+reverse-few [] h = refl
+reverse-few (x ∷ []) h = refl
+reverse-few (x ∷ y ∷ xs) h = absurd (omega arith)
+
+pub reversed-few : (f t : ℕ) (s : List ℕ) → Within f t s → t - f < 2 → reversed f t s ≡ s
+unfolding reversed
+reversed-few f t s w h = ap (written s f) (reverse-few (part f t s) (omega (arith, length-part w))) ∙ written-same w
 
 -- n elements at each end of the part change places, each the other way round
 unfoldable pub exchanged : ℕ → ℕ → ℕ → List ℕ → List ℕ

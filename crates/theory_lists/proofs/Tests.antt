@@ -7,10 +7,10 @@ use Prim.Native.Nat.{ℕ, _+_, _-_, _≤_, _<_}
 use native.Mathlib.Decide.{decLt}
 use native.Mathlib.Numerals.{add-one}
 use native.Mathlib.Omega.{arith}
-use lib.Dec.{eqb}
+use lib.Dec.{eqb, ltb}
 use lib.ListN.{length, getD, take, drop, length-take, length-drop, take-append-drop}
 use lib.Seq.{take-suc, take-take, take-all, take-add, getD-take}
-use borrow.Author.Tests.{eqb-true, eqb-false}
+use borrow.Author.Tests.{eqb-true, eqb-false, ltb-true, ltb-false}
 use Rattle.theory_lists.specs.Says.{Says}
 use Rattle.theory_lists.specs.Part.{part, Within, Has}
 use Rattle.theory_lists.proofs.Says.{says-alike}
@@ -24,6 +24,13 @@ says-equal x y = go (eqb x y) refl
     go : (t : Bool) → eqb x y ≡ t → Says t (x ≡ y)
     go true e = eqb-true x y e
     go false e = eqb-false x y e
+
+pub says-less : (x y : ℕ) → Says (ltb x y) (x < y)
+says-less x y = go (ltb x y) refl
+  where
+    go : (t : Bool) → ltb x y ≡ t → Says t (x < y)
+    go true e = ltb-true x y e
+    go false e = let l = ltb-false x y e in λ h. omega arith
 
 pub says-both : (b c : Bool) (P Q : Type 0) → Says b P → Says c Q → Says (b && c) (P × Q)
 says-both true true P Q p q = (p, q)
@@ -48,6 +55,10 @@ module _ (a b : List ℕ) where
       let m : i + (n - i) ≡ n = omega arith in
       ap (λ (k : ℕ). take k a) (sym m) ∙ take-add i (n - i) a ∙ rw (e, f) (sym (take-add i (n - i) b)) ∙ ap (λ (k : ℕ). take k b) m
 
+  -- a front of the front
+  pub same-less : (i j : ℕ) → j ≤ i → take i a ≡ take i b → take j a ≡ take j b
+  same-less i j h e = sym (take-take j i a h) ∙ ap (take j) e ∙ take-take j i b h
+
   same-rest : (i : ℕ) → take i a ≡ take i b → part i (length a) a ≡ part i (length b) b → a ≡ b
   same-rest i e f =
       sym (take-append-drop i a) ∙ rw (e, ← part-rest i a, f, part-rest i b) (take-append-drop i b)
@@ -60,7 +71,7 @@ module _ (a b : List ℕ) where
 
   one-less : (i : ℕ) → take (i + 1) a ≡ take (i + 1) b → (take i a ≡ take i b) × (getD a i 0 ≡ getD b i 0)
   one-less i e = (
-    sym (take-take i (i + 1) a (omega arith)) ∙ ap (take i) e ∙ take-take i (i + 1) b (omega arith),
+    same-less (i + 1) i (omega arith) e,
     sym (getD-take (i + 1) a i 0 (omega arith)) ∙ ap (λ (l : List ℕ). getD l i 0) e ∙ getD-take (i + 1) b i 0 (omega arith),
   )
 
@@ -103,6 +114,17 @@ module _ (v : ℕ) (s : List ℕ) where
 
   pub not-in-block : (i n : ℕ) → i ≤ n → n ≤ length s → (Has v (take i s) → ⊥) → (Has v (part i n s) → ⊥) → Has v (take n s) → ⊥
   not-in-block i n h l x y m = ⊎-elim x y (in-front-or-part i n h l m)
+
+  pub not-in-less : (i j : ℕ) → j ≤ i → (Has v (take i s) → ⊥) → Has v (take j s) → ⊥
+  not-in-less i j h n m =
+      let l : m .place < j = omega (arith, m .inside, length-take j s) in
+      let k : m .place < length s = omega (arith, m .inside, length-take j s) in
+      n
+      (record {
+        place = m .place;
+        inside = omega (arith, length-take i s);
+        stands = getD-take i s (m .place) 0 (omega arith) ∙ sym (getD-take j s (m .place) 0 l) ∙ m .stands;
+      })
 
   front-has : (i : ℕ) → Has v (take i s) → Has v s
   front-has i m =

@@ -110,6 +110,18 @@ module _ (s : List ℕ) (at : ℕ) (x y : List ℕ) (fits : at + length x + leng
       rw (take-append-le at (take (at + length x) s) rest (omega arith), take-take at (at + length x) s (omega arith), drop-drop (length x) at (take (at + length x) s ++ rest), drop-at (take (at + length x) s) rest (at + length x) l, length-append x y, ← drop-drop (length y) (length x) (drop at s), drop-drop (length x) at s)
       (ap (λ (r : List ℕ). take at s ++ r) (sym (append-assoc x y (drop (length y) (drop (at + length x) s)))))
 
+-- what is written over, in all of its places, is not seen
+pub written-over : (s : List ℕ) (p : ℕ) (y : List ℕ) (q : ℕ) (x : List ℕ) → q ≤ p → p + length y ≤ q + length x → q + length x ≤ length s
+    → written (written s p y) q x ≡ written s q x
+written-over s p y q x h l fits =
+    let first : length (written s p y) ≡ length s = length-written s p y (omega arith) in
+    let again : q + length x ≤ length (written s p y) = omega arith in
+    is-written s q x fits (written (written s p y) q x)
+    (length-written (written s p y) q x again ∙ first)
+    (λ k b. written-before (written s p y) q x again k b ∙ written-before s p y (omega arith) k (omega arith))
+    (λ k b. written-in (written s p y) q x again k b)
+    (λ k b. written-after (written s p y) q x again k b ∙ written-after s p y (omega arith) k (omega arith))
+
 -- a part that lies clear of what is written
 module _ (s : List ℕ) (at : ℕ) (new : List ℕ) (fits : at + length new ≤ length s) (f t : ℕ) where
   pub part-after-written : at + length new ≤ f → part f t (written s at new) ≡ part f t s

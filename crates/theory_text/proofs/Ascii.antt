@@ -1,14 +1,20 @@
 -- Bytes below 0x80 are their own text.
 use mathlib.Core.Path.{_≡_, refl, sym, ap, _∙_, subst}
+use mathlib.Core.Bool.{Bool, _&&_}
 use mathlib.Core.List.{List, [], _∷_, _++_}
 use Prim.Native.Nat.{ℕ, zero, suc, _+_, _-_, _<_, _≤_}
 use native.Mathlib.Omega.{arith}
 use native.Mathlib.Nat.{add-zero}
 use lib.Dec.{ltb}
-use lib.ListN.{length, getD, take, drop, length-append, List·getD-append}
+use lib.ListN.{length, getD, take, drop, length-append, length-take, length-drop, List·getD-append}
 use lib.Seq.{drop-cons, getD-append-add}
 use borrow.Author.Tests.{ltb-true, ltb-false}
 use Rattle.theory_whole.proofs.Cases.{by-test}
+use Rattle.theory_lists.specs.Says.{Says}
+use Rattle.theory_lists.specs.Part.{part, Within}
+use Rattle.theory_lists.proofs.Says.{says-alike}
+use Rattle.theory_lists.proofs.Part.{length-part, getD-part}
+use Rattle.theory_lists.proofs.Tests.{says-both, says-less}
 use Rattle.theory_text.specs.Scalar.{Scalar, form}
 use Rattle.theory_text.specs.Text.{Scalars, encode, Valid}
 use Rattle.theory_text.specs.Table.{first}
@@ -85,16 +91,6 @@ module _ (s : List ℕ) where
       let e : at + n + first (drop (at + n) s) ≡ at + suc n = omega arith in
       subst (λ (m : ℕ). Valid (take m s)) e (valid-extend s (at + n) (valid-ascii at n (omega arith) (λ j l m. a j l (omega arith)) v) (omega arith))
 
-  -- a run from the start that reaches the end, or does not
-  pub ascii-ran : (t : ℕ) → AsciiRun s 0 t → t ≡ length s → Ascii s
-  ascii-ran t r e j h = r .run j (omega arith) (omega arith)
-
-  pub ascii-stopped : (t : ℕ) → AsciiRun s 0 t → (t ≡ length s → ⊥) → Ascii s → ⊥
-  ascii-stopped t r n a =
-      let i : t ≤ length s = r .inside (omega arith) in
-      let h : t < length s = omega arith in
-      omega (arith, a t h, r .stops h)
-
   pub ascii-join : (f m t : ℕ) → AsciiIn s f m → AsciiIn s m t → AsciiIn s f t
   ascii-join f m t a b j l h =
       by-test (ltb j m) (λ e. a j l (ltb-true j m e)) (λ e. b j (ltb-false j m e) h)
@@ -104,3 +100,30 @@ module _ (s : List ℕ) where
 
   pub ascii-none : (f : ℕ) → AsciiIn s f f
   ascii-none f j l h = absurd (omega arith)
+
+  -- a part of them
+  pub ascii-of-part : (f t : ℕ) → Ascii s → Ascii (part f t s)
+  ascii-of-part f t a j h =
+      let l : j < t - f = omega (arith, h, length-take (t - f) (drop f s)) in
+      let m : f + j < length s = omega (arith, h, length-take (t - f) (drop f s), length-drop f s) in
+      rw (getD-part f t s j l) (a (f + j) m)
+
+  pub ascii-in-part : (f t : ℕ) → Within f t s → Ascii (part f t s) → AsciiIn s f t
+  ascii-in-part f t w a j l h =
+      let e : f + (j - f) ≡ j = omega arith in
+      subst (λ (k : ℕ). getD s k 0 < 0x80) e (rw (getD-part f t s (j - f) (omega arith)) at (a (j - f) (omega (arith, length-part w))))
+
+  -- tests from the front, a byte at a time, and with a last part
+  pub says-ascii-next : (ok : Bool) (i : ℕ) → Says ok (AsciiIn s 0 i) → Says (ok && ltb (getD s i 0) 0x80) (AsciiIn s 0 (i + 1))
+  says-ascii-next ok i k =
+      says-alike (ok && ltb (getD s i 0) 0x80) (λ p. ascii-join 0 i (i + 1) (p .0) (ascii-one i (p .1))) (λ a. (λ j l h. a j l (omega arith), a i (omega arith) (omega arith)))
+      (says-both ok (ltb (getD s i 0) 0x80) (AsciiIn s 0 i) (getD s i 0 < 0x80) k (says-less (getD s i 0) 0x80))
+
+  pub says-ascii-whole : (ok : Bool) (i : ℕ) → i ≡ length s → Says ok (AsciiIn s 0 i) → Says ok (Ascii s)
+  says-ascii-whole ok i e = says-alike ok (λ a j h. a j (omega arith) (omega arith)) (λ a j l h. a j (omega arith))
+
+  pub says-ascii-rest : (ok : Bool) (i last : ℕ) → last ≤ i → last ≤ length s → AsciiIn s 0 i → Says ok (Ascii (part last (length s) s)) → Says ok (Ascii s)
+  says-ascii-rest ok i last h l r =
+      says-alike ok
+      (λ a j b. ascii-join 0 last (length s) (λ k x y. r k x (omega arith)) (ascii-in-part last (length s) (record { ordered = l; ends = omega arith }) a) j (omega arith) b)
+      (ascii-of-part last (length s))

@@ -1,7 +1,10 @@
 use borrow.Author.Needs.{needs}
-use mathlib.Core.Path.{refl}
-use Rattle.theory_whole.proofs.Cases.{never}
 use native.Mathlib.Omega.{arith}
+use mathlib.Core.Path.{refl}
+use Prim.Native.Nat.{_+_}
+use Rattle.theory_whole.proofs.Cases.{never}
+use Rattle.theory_lists.proofs.Says.{says-true}
+use Rattle.theory_text.proofs.Ascii.{ascii-in-part}
 use Rattle.text_ascii.proofs.ascii_block.Statement.{statement}
 use Rattle.text_ascii.proofs.ascii_block.Tie as tie
 
@@ -12,7 +15,20 @@ returns-2 : tie.Need-returns-2
 returns-2 c = λ e. never e refl
 
 returns-3 : tie.Need-returns-3
-returns-3 c = λ e. (omega arith, c .all64 .ensures e)
+returns-3 c =
+    let a = c .before .before .before .before .before .args in
+    λ e. (omega arith, ascii-in-part (a .s .now) (a .from) (a .from + a .size) (search needs) (says-true (c .all .ensures) e))
 
 pub ascii-block-spec : {M : Type 1} → statement M
-ascii-block-spec = tie.close (tie.spec returns (λ c. search needs) returns-2 (λ c κs. search needs) returns-3)
+ascii-block-spec =
+    tie.close
+    (tie.spec
+    returns
+    (λ c. search needs)
+    returns-2
+    (λ c. search needs)
+    (λ c. search needs)
+    (λ c. search needs)
+    (λ c. search needs)
+    (λ c κs. search needs)
+    returns-3)

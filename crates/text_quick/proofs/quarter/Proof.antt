@@ -9,7 +9,7 @@ use Rattle.text_quick.proofs.quarter.Tie as tie
 returns : tie.Need-returns
 returns c =
     let a = c .before .before .before .before .args in
-    let b = c .before .ascii-quarter .ensures (c .if2 .taken) in
+    let b = c .before .ascii-block .ensures (c .if2 .taken) in
     moves-ascii (a .s .now) (a .from) 16 (a .x) (c .before .before .if1 .taken) (b .1) (b .0)
 
 returns-2 : tie.Need-returns-2
