@@ -13,7 +13,10 @@ ENDS = [
     {"END": "trailing", "COUNT": "TrailingCount", "LEFT": "lower", "SHIFT": "<<"},
 ]
 # The two orders of a number's bytes.
-ORDERS = [{"ORDER": "le", "NUMBER": "number", "DIGITS": "digits"}, {"ORDER": "be", "NUMBER": "numberHigh", "DIGITS": "digitsHigh"}]
+ORDERS = [
+    {"ORDER": "le", "NUMBER": "number", "DIGITS": "digits", "VALUE": "loaded(s)"},
+    {"ORDER": "be", "NUMBER": "numberHigh", "DIGITS": "digitsHigh", "VALUE": "turned(loaded(s))"},
+]
 # The crates: their templates, which widths they hold, and what exists once for each end or order.
 WHOLE = [("zeros", "zeros", WIDTHS[:4], "end", ENDS)]
 WHOLE += [("number_bytes" + width[0], "number_bytes", [width], "order", ORDERS) for width in WIDTHS[1:4]]
@@ -32,7 +35,8 @@ def byte_words(type_suffix, bits, order):
         "CRATE": "number_bytes" + type_suffix,
         "PARAMETERS": ", ".join("b%d: u8" % place for place in places),
         "JOINED": joined,
-        "READ": ", ".join("s[%d]" % place for place in listed),
+        "READ": ", ".join("s[%d]" % place for place in places),
+        "TURNED": ", ".join("b[%d]" % place for place in places[::-1]),
         "LISTED": ", ".join("b%d" % place for place in listed),
     }
 

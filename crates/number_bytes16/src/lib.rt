@@ -3,8 +3,9 @@
 ghost use mathlib.Core.Path.{_≡_};
 ghost use Prim.Native.Nat.{_+_, _*_};
 ghost use lib.IntN.{pos};
+ghost use lib.ListN.{length};
 ghost use Rattle.theory_whole.specs.Fit.{Answers};
-ghost use Rattle.theory_digits.specs.Digits.{digits, digitsHigh};
+ghost use Rattle.theory_digits.specs.Digits.{digits, value, digitsHigh, valueHigh};
 ghost use Rattle.theory_digits.specs.Answers.{number, numberHigh, Writes};
 
 // The answer of a function that may refuse: a refusal has the value 0.
@@ -21,6 +22,22 @@ fn joined(b0: u8, b1: u8) -> u16
     let mut n = b0 as u16;
     n += (b1 as u16) * 256;
     n
+}
+
+// The bytes of a slice, lowest first: one load.
+fn loaded(s: &[u8]) -> u16
+    requires { ⌜ length (now s) ≡ 2 ⌝ }
+    ensures { λ r. ⌜ r ≡ value 256 (now (s .entry)) ⌝ }
+{
+    joined(s[0], s[1])
+}
+
+// The same bytes the other way round: one swap.
+fn turned(x: u16) -> u16
+    ensures { λ r. ⌜ r ≡ valueHigh 256 (digits 256 2 x) ⌝ }
+{
+    let b = to_le_bytes(x);
+    joined(b[1], b[0])
 }
 
 fn stored(s: &mut [u8], at: usize, bytes: [u8; 2]) -> bool
@@ -43,7 +60,7 @@ pub fn from_le_bytes(s: &[u8]) -> Checked
     if s.len() == 2 {
         Checked {
             ok: true,
-            value: joined(s[0], s[1]),
+            value: loaded(s),
         }
     } else {
         Checked {
@@ -75,7 +92,7 @@ pub fn from_be_bytes(s: &[u8]) -> Checked
     if s.len() == 2 {
         Checked {
             ok: true,
-            value: joined(s[1], s[0]),
+            value: turned(loaded(s)),
         }
     } else {
         Checked {

@@ -3,8 +3,9 @@
 ghost use mathlib.Core.Path.{_≡_};
 ghost use Prim.Native.Nat.{_+_, _*_};
 ghost use lib.IntN.{pos};
+ghost use lib.ListN.{length};
 ghost use Rattle.theory_whole.specs.Fit.{Answers};
-ghost use Rattle.theory_digits.specs.Digits.{digits, digitsHigh};
+ghost use Rattle.theory_digits.specs.Digits.{digits, value, digitsHigh, valueHigh};
 ghost use Rattle.theory_digits.specs.Answers.{number, numberHigh, Writes};
 
 // The answer of a function that may refuse: a refusal has the value 0.
@@ -23,6 +24,22 @@ fn joined(b0: u8, b1: u8, b2: u8, b3: u8) -> u32
     n += (b2 as u32) * 65536;
     n += (b3 as u32) * 16777216;
     n
+}
+
+// The bytes of a slice, lowest first: one load.
+fn loaded(s: &[u8]) -> u32
+    requires { ⌜ length (now s) ≡ 4 ⌝ }
+    ensures { λ r. ⌜ r ≡ value 256 (now (s .entry)) ⌝ }
+{
+    joined(s[0], s[1], s[2], s[3])
+}
+
+// The same bytes the other way round: one swap.
+fn turned(x: u32) -> u32
+    ensures { λ r. ⌜ r ≡ valueHigh 256 (digits 256 4 x) ⌝ }
+{
+    let b = to_le_bytes(x);
+    joined(b[3], b[2], b[1], b[0])
 }
 
 fn stored(s: &mut [u8], at: usize, bytes: [u8; 4]) -> bool
@@ -47,7 +64,7 @@ pub fn from_le_bytes(s: &[u8]) -> Checked
     if s.len() == 4 {
         Checked {
             ok: true,
-            value: joined(s[0], s[1], s[2], s[3]),
+            value: loaded(s),
         }
     } else {
         Checked {
@@ -83,7 +100,7 @@ pub fn from_be_bytes(s: &[u8]) -> Checked
     if s.len() == 4 {
         Checked {
             ok: true,
-            value: joined(s[3], s[2], s[1], s[0]),
+            value: turned(loaded(s)),
         }
     } else {
         Checked {

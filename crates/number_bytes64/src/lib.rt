@@ -3,8 +3,9 @@
 ghost use mathlib.Core.Path.{_≡_};
 ghost use Prim.Native.Nat.{_+_, _*_};
 ghost use lib.IntN.{pos};
+ghost use lib.ListN.{length};
 ghost use Rattle.theory_whole.specs.Fit.{Answers};
-ghost use Rattle.theory_digits.specs.Digits.{digits, digitsHigh};
+ghost use Rattle.theory_digits.specs.Digits.{digits, value, digitsHigh, valueHigh};
 ghost use Rattle.theory_digits.specs.Answers.{number, numberHigh, Writes};
 
 // The answer of a function that may refuse: a refusal has the value 0.
@@ -27,6 +28,22 @@ fn joined(b0: u8, b1: u8, b2: u8, b3: u8, b4: u8, b5: u8, b6: u8, b7: u8) -> u64
     n += (b6 as u64) * 281474976710656;
     n += (b7 as u64) * 72057594037927936;
     n
+}
+
+// The bytes of a slice, lowest first: one load.
+fn loaded(s: &[u8]) -> u64
+    requires { ⌜ length (now s) ≡ 8 ⌝ }
+    ensures { λ r. ⌜ r ≡ value 256 (now (s .entry)) ⌝ }
+{
+    joined(s[0], s[1], s[2], s[3], s[4], s[5], s[6], s[7])
+}
+
+// The same bytes the other way round: one swap.
+fn turned(x: u64) -> u64
+    ensures { λ r. ⌜ r ≡ valueHigh 256 (digits 256 8 x) ⌝ }
+{
+    let b = to_le_bytes(x);
+    joined(b[7], b[6], b[5], b[4], b[3], b[2], b[1], b[0])
 }
 
 fn stored(s: &mut [u8], at: usize, bytes: [u8; 8]) -> bool
@@ -55,7 +72,7 @@ pub fn from_le_bytes(s: &[u8]) -> Checked
     if s.len() == 8 {
         Checked {
             ok: true,
-            value: joined(s[0], s[1], s[2], s[3], s[4], s[5], s[6], s[7]),
+            value: loaded(s),
         }
     } else {
         Checked {
@@ -99,7 +116,7 @@ pub fn from_be_bytes(s: &[u8]) -> Checked
     if s.len() == 8 {
         Checked {
             ok: true,
-            value: joined(s[7], s[6], s[5], s[4], s[3], s[2], s[1], s[0]),
+            value: turned(loaded(s)),
         }
     } else {
         Checked {

@@ -52,16 +52,22 @@ read-down-is b k s l = read-so-far b k s (omega arith) ∙ ap (valueHigh b) (tak
 
 -- ---- what is read, and what is refused
 
-answered : {v : ℕ} (b count : ℕ) (s : List ℕ) → length s ≡ count → v ≡ value b s → fit.Answers true (pos v) (number b count s)
+below-each : (b : ℕ) (s : List ℕ) → ((i : ℕ) → getD s i 0 < b) → AllBelow b s
+unfolding AllBelow
+below-each b [] h = tt
+below-each b (x ∷ s) h = (h 0, below-each b s (λ i. h (suc i)))
+
+pub number-read : {v : ℕ} (b count : ℕ) (s : List ℕ) → length s ≡ count → v ≡ value b s → fit.Answers true (pos v) (number b count s)
 unfolding number fit.only-if
-answered b count s l e = rw (eq-eqb (length s) count l) (refl, ap pos e)
+number-read b count s l e = rw (eq-eqb (length s) count l) (refl, ap pos e)
 
-pub number-read : {v : ℕ} (b k : ℕ) (s : List ℕ) → length s ≡ suc k → v ≡ read-up b s 0 k → fit.Answers true (pos v) (number b (suc k) s)
-number-read b k s l e = answered b (suc k) s l (e ∙ read-up-is b k s l)
-
-pub numberHigh-read : {v : ℕ} (b k : ℕ) (s : List ℕ) → length s ≡ suc k → v ≡ read-down b s k → fit.Answers true (pos v) (numberHigh b (suc k) s)
+-- by the number that the digits are the other way round
+pub numberHigh-read : {v x : ℕ} (b count : ℕ) (s : List ℕ) → length s ≡ count → ((i : ℕ) → getD s i 0 < b) → x ≡ value b s → v ≡ valueHigh b (digits b count x)
+    → fit.Answers true (pos v) (numberHigh b count s)
 unfolding numberHigh
-numberHigh-read b k s l e = answered b (suc k) (reverse s) (length-reverse s ∙ l) (e ∙ read-down-is b k s l)
+numberHigh-read {v} {x} b count s l h e f =
+    let d : digits b count x ≡ s = rw (e, ← l) (digits-of-value b s (below-each b s h)) in
+    number-read b count (reverse s) (length-reverse s ∙ l) (f ∙ ap (valueHigh b) d)
 
 pub number-refused : (b count : ℕ) (s : List ℕ) → (length s ≡ count → ⊥) → fit.Answers false (pos 0) (number b count s)
 unfolding number fit.only-if
