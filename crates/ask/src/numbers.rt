@@ -34,7 +34,7 @@ pub fn write(kind: u8, out: &mut [u8], at: usize, bits: u64) -> usize {
     at + n
 }
 
-fn spell(kind: u8, out: &mut [u8], at: usize, bits: u64) -> decimal::Length {
+fn spell(kind: u8, out: &mut [u8], at: usize, bits: u64) -> decimal_write::Length {
     match kind {
         numbered::U8 => crate::of_u8::write(out, at, numbered::low8(bits)),
         numbered::U16 => crate::of_u16::write(out, at, numbered::low16(bits)),

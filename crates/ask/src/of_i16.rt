@@ -9,6 +9,6 @@ pub fn read(s: &[u8], from: usize, to: usize) -> Answer {
     }
 }
 
-pub fn write(out: &mut [u8], at: usize, bits: u16) -> decimal::Length {
+pub fn write(out: &mut [u8], at: usize, bits: u16) -> decimal_write::Length {
     promisebook_beyond::pb_i16_write_decimal(signed16::wrapped(bits), out, at)
 }

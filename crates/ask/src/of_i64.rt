@@ -9,6 +9,6 @@ pub fn read(s: &[u8], from: usize, to: usize) -> Answer {
     }
 }
 
-pub fn write(out: &mut [u8], at: usize, bits: u64) -> decimal::Length {
+pub fn write(out: &mut [u8], at: usize, bits: u64) -> decimal_write::Length {
     promisebook_beyond::pb_i64_write_decimal(signed64::wrapped(bits), out, at)
 }

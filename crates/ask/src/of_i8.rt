@@ -9,6 +9,6 @@ pub fn read(s: &[u8], from: usize, to: usize) -> Answer {
     }
 }
 
-pub fn write(out: &mut [u8], at: usize, bits: u8) -> decimal::Length {
+pub fn write(out: &mut [u8], at: usize, bits: u8) -> decimal_write::Length {
     promisebook_beyond::pb_i8_write_decimal(signed8::wrapped(bits), out, at)
 }

@@ -9,7 +9,7 @@ pub fn read(s: &[u8], from: usize, to: usize) -> Answer {
     }
 }
 
-pub fn write(out: &mut [u8], at: usize, x: u8) -> decimal::Length {
+pub fn write(out: &mut [u8], at: usize, x: u8) -> decimal_write::Length {
     promisebook_beyond::pb_u8_write_decimal(x, out, at)
 }
 

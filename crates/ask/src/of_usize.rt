@@ -9,6 +9,6 @@ pub fn read(s: &[u8], from: usize, to: usize) -> Answer {
     }
 }
 
-pub fn write(out: &mut [u8], at: usize, x: usize) -> decimal::Length {
+pub fn write(out: &mut [u8], at: usize, x: usize) -> decimal_write::Length {
     promisebook_beyond::pb_usize_write_decimal(x, out, at)
 }
