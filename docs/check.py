@@ -23,7 +23,7 @@ TAKEN_UP = [
     "arithmetic--power2", "bits", "bytes", "endian", "math", "slice", "std_specs--bits", "std_specs--char", "std_specs--num", "std_specs--slice", "utf8", "wrapping",
 ]
 
-PROGRAMS = ["numbered", "ask", "show", "tables", "every_pair", "edges", "every_bit", "every_slice", "every_text", "bench_loops"]
+PROGRAMS = ["numbered", "questions", "ask", "show", "tables", "every_pair", "edges", "every_bit", "every_slice", "every_text", "bench_loops"]
 WIDTHS = ["8", "16", "32", "64", "size"]
 
 faults = []

@@ -1,34 +1,38 @@
-"""Numbers as decimal text: the crate decimal, in one file.
+"""Numbers as decimal text: the crates decimal_read, decimal_read_signed and decimal_write, each in one file.
 
-lib.rt.in is how the file begins, with what reads and writes 64 bits; the other widths go by it. unsigned.rt.in follows for each of those, and signed.rt.in for each
-width; the name of a proof's template is that of its function, with words in capitals too. proofs/core has those of lib.rt.in."""
+lib.rt.in is how a file begins, with what reads or writes 64 bits; unsigned.rt.in follows for each other width, and signed.rt.in for each width. The name of a
+proof's template is that of its function, with words in capitals too. proofs/core has those of lib.rt.in."""
 import os
 
-from templates import CRATES, TEMPLATES, WIDTHS, filled, read, templates, words
-
-SOURCE = os.path.join(TEMPLATES, "decimal")
-CRATE = os.path.join(CRATES, "decimal")
+from templates import CRATES, SIGNS, TEMPLATES, WIDTHS, filled, read, templates, words
 
 
-def parts():
-    """Each part of the file with its width: what it is called, its bits and its words."""
+def parts(source):
+    """Each part of a crate's file with its width: what it is called, its bits and its words."""
     for suffix, type_suffix, bits in WIDTHS:
         table = words(suffix, type_suffix, bits)
         table["UINT2"] = table["UINT"] + "2"  # how a proof calls the second call of a function whose name ends so
-        if type_suffix != "64":
-            yield "unsigned", bits, table
-        else:
-            yield "heading", bits, table
-        yield "signed", bits, table
+        for sign in SIGNS:
+            if sign in templates(source, bits) and (sign, type_suffix) != ("unsigned", "64"):
+                yield sign, bits, table
+
+
+def proofs(folder, bits):
+    return templates(folder, bits).items() if os.path.isdir(folder) else []
+
+
+def crate(name):
+    source, place = os.path.join(TEMPLATES, name), os.path.join(CRATES, name)
+    lib = read(os.path.join(source, "lib.rt.in"))
+    for function, proof in proofs(os.path.join(source, "proofs", "core"), 64):
+        yield os.path.join(place, "proofs", function, "Proof.antt"), proof
+    for part, bits, table in parts(source):
+        lib += filled(templates(source, bits)[part], table)
+        for function, proof in proofs(os.path.join(source, "proofs", part), bits):
+            yield os.path.join(place, "proofs", filled(function, table), "Proof.antt"), filled(proof, table)
+    yield os.path.join(place, "src", "lib.rt"), lib
 
 
 def files():
-    lib = read(os.path.join(SOURCE, "lib.rt.in"))
-    for function, proof in templates(os.path.join(SOURCE, "proofs", "core"), 64).items():
-        yield os.path.join(CRATE, "proofs", function, "Proof.antt"), proof
-    for part, bits, table in parts():
-        lib += filled(templates(SOURCE, bits)[part], table)
-        folder = os.path.join(SOURCE, "proofs", part)
-        for function, proof in (templates(folder, bits) if os.path.isdir(folder) else {}).items():
-            yield os.path.join(CRATE, "proofs", filled(function, table), "Proof.antt"), filled(proof, table)
-    yield os.path.join(CRATE, "src", "lib.rt"), lib
+    for name in "decimal_read", "decimal_read_signed", "decimal_write":
+        yield from crate(name)

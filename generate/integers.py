@@ -1,5 +1,6 @@
-"""Family A: the crates unsigned8 .. signed_size, and the face's modules promises_u8 .. promises_isize."""
+"""Family A: the crates unsigned8 .. signed_size and unsigned8_division .. signed_size_division, and the face's modules promises_u8 .. promises_isize."""
 import os
+from itertools import product
 
 from templates import CRATES, SIGNS, TEMPLATES, WIDTHS, filled, read, templates, type_name, words
 
@@ -7,13 +8,13 @@ from templates import CRATES, SIGNS, TEMPLATES, WIDTHS, filled, read, templates,
 def width_crates():
     for suffix, type_suffix, bits in WIDTHS:
         table = words(suffix, type_suffix, bits)
-        for sign in SIGNS:
-            folder = os.path.join(TEMPLATES, sign)
+        for sign, part in product(SIGNS, ["", "_division"]):
+            folder = os.path.join(TEMPLATES, sign + part)
             code = templates(folder, bits)
             lib = code.pop("lib")
-            for name, part in code.items():
-                lib = lib.replace(name.upper() + "\n", part)
-            crate = os.path.join(CRATES, sign + suffix)
+            for name, function in code.items():
+                lib = lib.replace(name.upper() + "\n", function)
+            crate = os.path.join(CRATES, sign + suffix + part)
             yield os.path.join(crate, "src", "lib.rt"), filled(lib, table)
             for name, proof in templates(os.path.join(folder, "proofs"), bits).items():
                 yield os.path.join(crate, "proofs", name, "Proof.antt"), filled(proof, table)

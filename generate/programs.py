@@ -1,4 +1,4 @@
-"""What the programs have once per kind of integer: the modules of crates/numbered and of crates/ask, and what the program `edges` must print.
+"""What the programs have once per kind of integer: the modules of crates/numbered and of crates/questions, and what the program `edges` must print.
 
 The last is worked out here from the operations' meaning in Python's unbounded integers. Nothing is taken from a run of the program."""
 import os
@@ -17,15 +17,15 @@ def modules():
 
 
 def questions():
-    """The modules of crates/ask: numbers at each kind, zeros and ones at four of them, bytes at three."""
-    folder = os.path.join(TEMPLATES, "ask")
+    """The modules of crates/questions: numbers at each kind, zeros and ones at four of them, bytes at three."""
+    folder = os.path.join(TEMPLATES, "questions")
     for suffix, type_suffix, bits in WIDTHS:
         for sign in SIGNS:
             code = read(os.path.join(folder, sign + ".rt.in"))
             if sign == "unsigned" and suffix == type_suffix:
                 code += read(os.path.join(folder, "zeros.rt.in"))
                 code += read(os.path.join(folder, "bytes.rt.in")) if bits > 8 else ""
-            yield os.path.join(CRATES, "ask", "src", "of_%s.rt" % type_name(sign, type_suffix)), filled(code, words(suffix, type_suffix, bits))
+            yield os.path.join(CRATES, "questions", "src", "of_%s.rt" % type_name(sign, type_suffix)), filled(code, words(suffix, type_suffix, bits))
 
 
 # The order in which the program goes through the kinds and the operations.

@@ -1,7 +1,7 @@
 // The arguments as one question: joined by single spaces.
-use crate::answers;
 use libc::STDOUT_FILENO;
 use promisebook::promises_slices;
+use questions::answers;
 
 // The bytes of the question so far; not ok where there are more than a line can hold.
 struct Joined {
@@ -33,18 +33,16 @@ fn reply(ok: bool, line: &[u8]) {
 }
 
 fn one_line(ok: bool, line: &[u8]) {
-    let mut bytes = crate::lines::half_of_line();
-    let mut other = crate::lines::half_of_line();
     let mut out = crate::lines::two_lines();
-    let end = one_answer(ok, line, &mut bytes, &mut other, &mut out);
+    let end = one_answer(ok, line, &mut out);
     if end <= 131072 {
         io::write_all(STDOUT_FILENO, &out[0..end]);
     }
 }
 
-fn one_answer(ok: bool, line: &[u8], bytes: &mut [u8], other: &mut [u8], out: &mut [u8]) -> usize {
+fn one_answer(ok: bool, line: &[u8], out: &mut [u8]) -> usize {
     if ok {
-        let end = crate::questions::answer(line, bytes, other, out, 0);
+        let end = questions::answer(line, out, 0);
         return answers::line_end(out, end);
     }
     let end = answers::malformed(out, 0);

@@ -1,8 +1,9 @@
 // What `ask --help` says: how to ask, and every name with its arguments.
-use crate::bytes;
-use crate::digits;
-use crate::integers;
-use crate::places;
+use questions::bytes;
+use questions::digits;
+use questions::integers;
+use questions::places;
+use questions::text;
 
 pub fn print() {
     how_to_ask();
@@ -12,7 +13,7 @@ pub fn print() {
     list(DIGITS, &digits::NAMES);
     legend_of_bytes();
     list(BYTES, &bytes::NAMES);
-    list(TEXT, &crate::text::NAMES);
+    list(TEXT, &text::NAMES);
 }
 
 fn how_to_ask() {
@@ -157,10 +158,10 @@ fn part(operation: u8) {
 
 fn of_text(operation: u8) {
     match operation {
-        crate::text::SCALAR_LEN | crate::text::IS_WHITE_SPACE => show::text(b" c"),
-        crate::text::IS_BOUNDARY | crate::text::SPLIT_AT => show::text(b" b i"),
-        crate::text::READ_FIRST | crate::text::READ_LAST => show::text(b" b f t"),
-        crate::text::WRITE => show::text(b" b at c"),
+        text::SCALAR_LEN | text::IS_WHITE_SPACE => show::text(b" c"),
+        text::IS_BOUNDARY | text::SPLIT_AT => show::text(b" b i"),
+        text::READ_FIRST | text::READ_LAST => show::text(b" b f t"),
+        text::WRITE => show::text(b" b at c"),
         _ => show::text(b" b"),
     }
 }

@@ -1,9 +1,9 @@
 // Standard input, line by line, and the answers to standard output.
-use crate::answers;
-use crate::places;
 use libc::STDIN_FILENO;
 use libc::STDOUT_FILENO;
 use promisebook::promises_slices;
+use questions::answers;
+use questions::places;
 
 // What is known between two reads: how many bytes of a line are held, whether it has more than can be held, how many bytes of answers are still to be
 // written, and whether there is anything left to do.
@@ -12,11 +12,6 @@ struct State {
     long: bool,
     used: usize,
     open: bool,
-}
-
-// Room for the bytes that a line spells, two digits each.
-pub fn half_of_line() -> [u8; 32768] {
-    [0; 32768]
 }
 
 // Room for answers, twice what a line has: bytes in an answer take no more than its line, and any other answer has three numbers or a word.
@@ -30,14 +25,12 @@ const HALF: usize = 65536;
 pub fn answer_all() {
     let mut block = io::large_buffer();
     let mut line = io::large_buffer();
-    let mut bytes = half_of_line();
-    let mut other = half_of_line();
     let mut out = two_lines();
-    run(&mut block, &mut line, &mut bytes, &mut other, &mut out);
+    run(&mut block, &mut line, &mut out);
 }
 
 // A proved loop has to end, and nothing says that the input does: the turns are counted down from a number that no run uses up.
-fn run(block: &mut [u8], line: &mut [u8], bytes: &mut [u8], other: &mut [u8], out: &mut [u8]) {
+fn run(block: &mut [u8], line: &mut [u8], out: &mut [u8]) {
     let mut state = State {
         held: 0,
         long: false,
@@ -46,7 +39,7 @@ fn run(block: &mut [u8], line: &mut [u8], bytes: &mut [u8], other: &mut [u8], ou
     };
     let mut turns = u64::MAX;
     while turns > 0 {
-        state = turn(block, line, bytes, other, out, state);
+        state = turn(block, line, out, state);
         if !state.open {
             return;
         }
@@ -55,14 +48,7 @@ fn run(block: &mut [u8], line: &mut [u8], bytes: &mut [u8], other: &mut [u8], ou
 }
 
 // One read, and the answers to the lines that end in what came. What was answered before is written out first: the read may wait for whoever reads it.
-fn turn(
-    block: &mut [u8],
-    line: &mut [u8],
-    bytes: &mut [u8],
-    other: &mut [u8],
-    out: &mut [u8],
-    state: State,
-) -> State {
+fn turn(block: &mut [u8], line: &mut [u8], out: &mut [u8], state: State) -> State {
     let written = flushed(out, state);
     if !written.open {
         return written;
@@ -70,21 +56,15 @@ fn turn(
     let got = libc::read(STDIN_FILENO, block);
     let n = io::count(got, block);
     if n == 0 {
-        return finished(line, bytes, other, out, written);
+        return finished(line, out, written);
     }
-    answered(&block[0..n], line, bytes, other, out, written)
+    answered(&block[0..n], line, out, written)
 }
 
 // Answers the last line, if it has no end of its own.
-fn finished(
-    line: &[u8],
-    bytes: &mut [u8],
-    other: &mut [u8],
-    out: &mut [u8],
-    state: State,
-) -> State {
+fn finished(line: &[u8], out: &mut [u8], state: State) -> State {
     if (0 < state.held) | state.long {
-        let last = line_answered(line, bytes, other, out, state);
+        let last = line_answered(line, out, state);
         return closed(out, last);
     }
     closed(out, state)
@@ -98,14 +78,7 @@ fn closed(out: &[u8], state: State) -> State {
 }
 
 // Answers each line that ends in the block, and holds what is left behind the last.
-fn answered(
-    block: &[u8],
-    line: &mut [u8],
-    bytes: &mut [u8],
-    other: &mut [u8],
-    out: &mut [u8],
-    state: State,
-) -> State {
+fn answered(block: &[u8], line: &mut [u8], out: &mut [u8], state: State) -> State {
     let mut next = state;
     let mut at = 0;
     while at < block.len() {
@@ -114,7 +87,7 @@ fn answered(
         if end == block.len() {
             return next;
         }
-        next = line_answered(line, bytes, other, out, next);
+        next = line_answered(line, out, next);
         at = end + 1;
     }
     next
@@ -146,14 +119,8 @@ fn gathered(line: &mut [u8], block: &[u8], from: usize, to: usize, state: State)
 }
 
 // The line that is held is answered, and the next one begins.
-fn line_answered(
-    line: &[u8],
-    bytes: &mut [u8],
-    other: &mut [u8],
-    out: &mut [u8],
-    state: State,
-) -> State {
-    let behind = one_answer(line, bytes, other, out, state);
+fn line_answered(line: &[u8], out: &mut [u8], state: State) -> State {
+    let behind = one_answer(line, out, state);
     let end = answers::line_end(out, behind);
     let next = State {
         held: 0,
@@ -167,13 +134,7 @@ fn line_answered(
     flushed(out, next)
 }
 
-fn one_answer(
-    line: &[u8],
-    bytes: &mut [u8],
-    other: &mut [u8],
-    out: &mut [u8],
-    state: State,
-) -> usize {
+fn one_answer(line: &[u8], out: &mut [u8], state: State) -> usize {
     let held = state.held;
     let used = state.used;
     if state.long {
@@ -182,7 +143,7 @@ fn one_answer(
     if line.len() < held {
         return answers::malformed(out, used);
     }
-    crate::questions::answer(&line[0..held], bytes, other, out, used)
+    questions::answer(&line[0..held], out, used)
 }
 
 // The answers are written out; where they cannot be, there is nothing left to do.

@@ -39,14 +39,14 @@ pub extern "C" fn pb_i16_wrapping_mul(x: i16, y: i16) -> i16
 pub extern "C" fn pb_i16_wrapping_shl(x: i16, rhs: u32) -> i16
     ensures { λ r. ⌜ r ≡ wrapping-shl 16 x rhs ⌝ }
 {
-    signed16::wrapping_shl(x, rhs)
+    signed16_division::wrapping_shl(x, rhs)
 }
 
 #[no_mangle]
 pub extern "C" fn pb_i16_wrapping_shr(x: i16, rhs: u32) -> i16
     ensures { λ r. ⌜ r ≡ wrapping-shr 16 x rhs ⌝ }
 {
-    signed16::wrapping_shr(x, rhs)
+    signed16_division::wrapping_shr(x, rhs)
 }
 
 #[no_mangle]
@@ -88,28 +88,28 @@ pub extern "C" fn pb_i16_checked_mul(x: i16, y: i16) -> signed16::Checked
 pub extern "C" fn pb_i16_checked_div(x: i16, y: i16) -> signed16::Checked
     ensures { λ r. ⌜ Answers (r .ok) (r .value) (checked-div 16 x y) ⌝ }
 {
-    signed16::checked_div(x, y)
+    signed16_division::checked_div(x, y)
 }
 
 #[no_mangle]
 pub extern "C" fn pb_i16_checked_div_euclid(x: i16, y: i16) -> signed16::Checked
     ensures { λ r. ⌜ Answers (r .ok) (r .value) (checked-div-euclid 16 x y) ⌝ }
 {
-    signed16::checked_div_euclid(x, y)
+    signed16_division::checked_div_euclid(x, y)
 }
 
 #[no_mangle]
 pub extern "C" fn pb_i16_checked_rem(x: i16, y: i16) -> signed16::Checked
     ensures { λ r. ⌜ Answers (r .ok) (r .value) (checked-rem 16 x y) ⌝ }
 {
-    signed16::checked_rem(x, y)
+    signed16_division::checked_rem(x, y)
 }
 
 #[no_mangle]
 pub extern "C" fn pb_i16_checked_rem_euclid(x: i16, y: i16) -> signed16::Checked
     ensures { λ r. ⌜ Answers (r .ok) (r .value) (checked-rem-euclid 16 x y) ⌝ }
 {
-    signed16::checked_rem_euclid(x, y)
+    signed16_division::checked_rem_euclid(x, y)
 }
 
 #[no_mangle]

@@ -39,14 +39,14 @@ pub extern "C" fn pb_i32_wrapping_mul(x: i32, y: i32) -> i32
 pub extern "C" fn pb_i32_wrapping_shl(x: i32, rhs: u32) -> i32
     ensures { λ r. ⌜ r ≡ wrapping-shl 32 x rhs ⌝ }
 {
-    signed32::wrapping_shl(x, rhs)
+    signed32_division::wrapping_shl(x, rhs)
 }
 
 #[no_mangle]
 pub extern "C" fn pb_i32_wrapping_shr(x: i32, rhs: u32) -> i32
     ensures { λ r. ⌜ r ≡ wrapping-shr 32 x rhs ⌝ }
 {
-    signed32::wrapping_shr(x, rhs)
+    signed32_division::wrapping_shr(x, rhs)
 }
 
 #[no_mangle]
@@ -88,28 +88,28 @@ pub extern "C" fn pb_i32_checked_mul(x: i32, y: i32) -> signed32::Checked
 pub extern "C" fn pb_i32_checked_div(x: i32, y: i32) -> signed32::Checked
     ensures { λ r. ⌜ Answers (r .ok) (r .value) (checked-div 32 x y) ⌝ }
 {
-    signed32::checked_div(x, y)
+    signed32_division::checked_div(x, y)
 }
 
 #[no_mangle]
 pub extern "C" fn pb_i32_checked_div_euclid(x: i32, y: i32) -> signed32::Checked
     ensures { λ r. ⌜ Answers (r .ok) (r .value) (checked-div-euclid 32 x y) ⌝ }
 {
-    signed32::checked_div_euclid(x, y)
+    signed32_division::checked_div_euclid(x, y)
 }
 
 #[no_mangle]
 pub extern "C" fn pb_i32_checked_rem(x: i32, y: i32) -> signed32::Checked
     ensures { λ r. ⌜ Answers (r .ok) (r .value) (checked-rem 32 x y) ⌝ }
 {
-    signed32::checked_rem(x, y)
+    signed32_division::checked_rem(x, y)
 }
 
 #[no_mangle]
 pub extern "C" fn pb_i32_checked_rem_euclid(x: i32, y: i32) -> signed32::Checked
     ensures { λ r. ⌜ Answers (r .ok) (r .value) (checked-rem-euclid 32 x y) ⌝ }
 {
-    signed32::checked_rem_euclid(x, y)
+    signed32_division::checked_rem_euclid(x, y)
 }
 
 #[no_mangle]

@@ -39,14 +39,14 @@ pub extern "C" fn pb_i64_wrapping_mul(x: i64, y: i64) -> i64
 pub extern "C" fn pb_i64_wrapping_shl(x: i64, rhs: u32) -> i64
     ensures { λ r. ⌜ r ≡ wrapping-shl 64 x rhs ⌝ }
 {
-    signed64::wrapping_shl(x, rhs)
+    signed64_division::wrapping_shl(x, rhs)
 }
 
 #[no_mangle]
 pub extern "C" fn pb_i64_wrapping_shr(x: i64, rhs: u32) -> i64
     ensures { λ r. ⌜ r ≡ wrapping-shr 64 x rhs ⌝ }
 {
-    signed64::wrapping_shr(x, rhs)
+    signed64_division::wrapping_shr(x, rhs)
 }
 
 #[no_mangle]
@@ -88,28 +88,28 @@ pub extern "C" fn pb_i64_checked_mul(x: i64, y: i64) -> signed64::Checked
 pub extern "C" fn pb_i64_checked_div(x: i64, y: i64) -> signed64::Checked
     ensures { λ r. ⌜ Answers (r .ok) (r .value) (checked-div 64 x y) ⌝ }
 {
-    signed64::checked_div(x, y)
+    signed64_division::checked_div(x, y)
 }
 
 #[no_mangle]
 pub extern "C" fn pb_i64_checked_div_euclid(x: i64, y: i64) -> signed64::Checked
     ensures { λ r. ⌜ Answers (r .ok) (r .value) (checked-div-euclid 64 x y) ⌝ }
 {
-    signed64::checked_div_euclid(x, y)
+    signed64_division::checked_div_euclid(x, y)
 }
 
 #[no_mangle]
 pub extern "C" fn pb_i64_checked_rem(x: i64, y: i64) -> signed64::Checked
     ensures { λ r. ⌜ Answers (r .ok) (r .value) (checked-rem 64 x y) ⌝ }
 {
-    signed64::checked_rem(x, y)
+    signed64_division::checked_rem(x, y)
 }
 
 #[no_mangle]
 pub extern "C" fn pb_i64_checked_rem_euclid(x: i64, y: i64) -> signed64::Checked
     ensures { λ r. ⌜ Answers (r .ok) (r .value) (checked-rem-euclid 64 x y) ⌝ }
 {
-    signed64::checked_rem_euclid(x, y)
+    signed64_division::checked_rem_euclid(x, y)
 }
 
 #[no_mangle]

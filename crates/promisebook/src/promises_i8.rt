@@ -39,14 +39,14 @@ pub extern "C" fn pb_i8_wrapping_mul(x: i8, y: i8) -> i8
 pub extern "C" fn pb_i8_wrapping_shl(x: i8, rhs: u32) -> i8
     ensures { λ r. ⌜ r ≡ wrapping-shl 8 x rhs ⌝ }
 {
-    signed8::wrapping_shl(x, rhs)
+    signed8_division::wrapping_shl(x, rhs)
 }
 
 #[no_mangle]
 pub extern "C" fn pb_i8_wrapping_shr(x: i8, rhs: u32) -> i8
     ensures { λ r. ⌜ r ≡ wrapping-shr 8 x rhs ⌝ }
 {
-    signed8::wrapping_shr(x, rhs)
+    signed8_division::wrapping_shr(x, rhs)
 }
 
 #[no_mangle]
@@ -88,28 +88,28 @@ pub extern "C" fn pb_i8_checked_mul(x: i8, y: i8) -> signed8::Checked
 pub extern "C" fn pb_i8_checked_div(x: i8, y: i8) -> signed8::Checked
     ensures { λ r. ⌜ Answers (r .ok) (r .value) (checked-div 8 x y) ⌝ }
 {
-    signed8::checked_div(x, y)
+    signed8_division::checked_div(x, y)
 }
 
 #[no_mangle]
 pub extern "C" fn pb_i8_checked_div_euclid(x: i8, y: i8) -> signed8::Checked
     ensures { λ r. ⌜ Answers (r .ok) (r .value) (checked-div-euclid 8 x y) ⌝ }
 {
-    signed8::checked_div_euclid(x, y)
+    signed8_division::checked_div_euclid(x, y)
 }
 
 #[no_mangle]
 pub extern "C" fn pb_i8_checked_rem(x: i8, y: i8) -> signed8::Checked
     ensures { λ r. ⌜ Answers (r .ok) (r .value) (checked-rem 8 x y) ⌝ }
 {
-    signed8::checked_rem(x, y)
+    signed8_division::checked_rem(x, y)
 }
 
 #[no_mangle]
 pub extern "C" fn pb_i8_checked_rem_euclid(x: i8, y: i8) -> signed8::Checked
     ensures { λ r. ⌜ Answers (r .ok) (r .value) (checked-rem-euclid 8 x y) ⌝ }
 {
-    signed8::checked_rem_euclid(x, y)
+    signed8_division::checked_rem_euclid(x, y)
 }
 
 #[no_mangle]

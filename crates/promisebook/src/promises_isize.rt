@@ -39,14 +39,14 @@ pub extern "C" fn pb_isize_wrapping_mul(x: isize, y: isize) -> isize
 pub extern "C" fn pb_isize_wrapping_shl(x: isize, rhs: u32) -> isize
     ensures { λ r. ⌜ r ≡ wrapping-shl 64 x rhs ⌝ }
 {
-    signed_size::wrapping_shl(x, rhs)
+    signed_size_division::wrapping_shl(x, rhs)
 }
 
 #[no_mangle]
 pub extern "C" fn pb_isize_wrapping_shr(x: isize, rhs: u32) -> isize
     ensures { λ r. ⌜ r ≡ wrapping-shr 64 x rhs ⌝ }
 {
-    signed_size::wrapping_shr(x, rhs)
+    signed_size_division::wrapping_shr(x, rhs)
 }
 
 #[no_mangle]
@@ -88,28 +88,28 @@ pub extern "C" fn pb_isize_checked_mul(x: isize, y: isize) -> signed_size::Check
 pub extern "C" fn pb_isize_checked_div(x: isize, y: isize) -> signed_size::Checked
     ensures { λ r. ⌜ Answers (r .ok) (r .value) (checked-div 64 x y) ⌝ }
 {
-    signed_size::checked_div(x, y)
+    signed_size_division::checked_div(x, y)
 }
 
 #[no_mangle]
 pub extern "C" fn pb_isize_checked_div_euclid(x: isize, y: isize) -> signed_size::Checked
     ensures { λ r. ⌜ Answers (r .ok) (r .value) (checked-div-euclid 64 x y) ⌝ }
 {
-    signed_size::checked_div_euclid(x, y)
+    signed_size_division::checked_div_euclid(x, y)
 }
 
 #[no_mangle]
 pub extern "C" fn pb_isize_checked_rem(x: isize, y: isize) -> signed_size::Checked
     ensures { λ r. ⌜ Answers (r .ok) (r .value) (checked-rem 64 x y) ⌝ }
 {
-    signed_size::checked_rem(x, y)
+    signed_size_division::checked_rem(x, y)
 }
 
 #[no_mangle]
 pub extern "C" fn pb_isize_checked_rem_euclid(x: isize, y: isize) -> signed_size::Checked
     ensures { λ r. ⌜ Answers (r .ok) (r .value) (checked-rem-euclid 64 x y) ⌝ }
 {
-    signed_size::checked_rem_euclid(x, y)
+    signed_size_division::checked_rem_euclid(x, y)
 }
 
 #[no_mangle]

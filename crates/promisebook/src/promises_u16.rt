@@ -39,14 +39,14 @@ pub extern "C" fn pb_u16_wrapping_mul(x: u16, y: u16) -> u16
 pub extern "C" fn pb_u16_wrapping_shl(x: u16, rhs: u32) -> u16
     ensures { λ r. ⌜ pos r ≡ wrapping-shl 16 (pos x) rhs ⌝ }
 {
-    unsigned16::wrapping_shl(x, rhs)
+    unsigned16_division::wrapping_shl(x, rhs)
 }
 
 #[no_mangle]
 pub extern "C" fn pb_u16_wrapping_shr(x: u16, rhs: u32) -> u16
     ensures { λ r. ⌜ pos r ≡ wrapping-shr 16 (pos x) rhs ⌝ }
 {
-    unsigned16::wrapping_shr(x, rhs)
+    unsigned16_division::wrapping_shr(x, rhs)
 }
 
 #[no_mangle]
@@ -81,35 +81,35 @@ pub extern "C" fn pb_u16_checked_mul(x: u16, y: u16) -> unsigned16::Checked
 pub extern "C" fn pb_u16_checked_next_multiple_of(x: u16, y: u16) -> unsigned16::Checked
     ensures { λ r. ⌜ Answers (r .ok) (pos (r .value)) (checked-next-multiple-of 16 (pos x) (pos y)) ⌝ }
 {
-    unsigned16::checked_next_multiple_of(x, y)
+    unsigned16_division::checked_next_multiple_of(x, y)
 }
 
 #[no_mangle]
 pub extern "C" fn pb_u16_checked_div(x: u16, y: u16) -> unsigned16::Checked
     ensures { λ r. ⌜ Answers (r .ok) (pos (r .value)) (checked-div 16 (pos x) (pos y)) ⌝ }
 {
-    unsigned16::checked_div(x, y)
+    unsigned16_division::checked_div(x, y)
 }
 
 #[no_mangle]
 pub extern "C" fn pb_u16_checked_div_euclid(x: u16, y: u16) -> unsigned16::Checked
     ensures { λ r. ⌜ Answers (r .ok) (pos (r .value)) (checked-div 16 (pos x) (pos y)) ⌝ }
 {
-    unsigned16::checked_div_euclid(x, y)
+    unsigned16_division::checked_div_euclid(x, y)
 }
 
 #[no_mangle]
 pub extern "C" fn pb_u16_checked_rem(x: u16, y: u16) -> unsigned16::Checked
     ensures { λ r. ⌜ Answers (r .ok) (pos (r .value)) (checked-rem 16 (pos x) (pos y)) ⌝ }
 {
-    unsigned16::checked_rem(x, y)
+    unsigned16_division::checked_rem(x, y)
 }
 
 #[no_mangle]
 pub extern "C" fn pb_u16_checked_rem_euclid(x: u16, y: u16) -> unsigned16::Checked
     ensures { λ r. ⌜ Answers (r .ok) (pos (r .value)) (checked-rem 16 (pos x) (pos y)) ⌝ }
 {
-    unsigned16::checked_rem_euclid(x, y)
+    unsigned16_division::checked_rem_euclid(x, y)
 }
 
 #[no_mangle]
@@ -137,7 +137,7 @@ pub extern "C" fn pb_u16_saturating_mul(x: u16, y: u16) -> u16
 pub extern "C" fn pb_u16_is_multiple_of(x: u16, y: u16) -> bool
     ensures { λ r. ⌜ r ≡ is-multiple-of (pos x) (pos y) ⌝ }
 {
-    unsigned16::is_multiple_of(x, y)
+    unsigned16_division::is_multiple_of(x, y)
 }
 
 #[no_mangle]

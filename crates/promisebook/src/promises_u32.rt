@@ -39,14 +39,14 @@ pub extern "C" fn pb_u32_wrapping_mul(x: u32, y: u32) -> u32
 pub extern "C" fn pb_u32_wrapping_shl(x: u32, rhs: u32) -> u32
     ensures { λ r. ⌜ pos r ≡ wrapping-shl 32 (pos x) rhs ⌝ }
 {
-    unsigned32::wrapping_shl(x, rhs)
+    unsigned32_division::wrapping_shl(x, rhs)
 }
 
 #[no_mangle]
 pub extern "C" fn pb_u32_wrapping_shr(x: u32, rhs: u32) -> u32
     ensures { λ r. ⌜ pos r ≡ wrapping-shr 32 (pos x) rhs ⌝ }
 {
-    unsigned32::wrapping_shr(x, rhs)
+    unsigned32_division::wrapping_shr(x, rhs)
 }
 
 #[no_mangle]
@@ -81,35 +81,35 @@ pub extern "C" fn pb_u32_checked_mul(x: u32, y: u32) -> unsigned32::Checked
 pub extern "C" fn pb_u32_checked_next_multiple_of(x: u32, y: u32) -> unsigned32::Checked
     ensures { λ r. ⌜ Answers (r .ok) (pos (r .value)) (checked-next-multiple-of 32 (pos x) (pos y)) ⌝ }
 {
-    unsigned32::checked_next_multiple_of(x, y)
+    unsigned32_division::checked_next_multiple_of(x, y)
 }
 
 #[no_mangle]
 pub extern "C" fn pb_u32_checked_div(x: u32, y: u32) -> unsigned32::Checked
     ensures { λ r. ⌜ Answers (r .ok) (pos (r .value)) (checked-div 32 (pos x) (pos y)) ⌝ }
 {
-    unsigned32::checked_div(x, y)
+    unsigned32_division::checked_div(x, y)
 }
 
 #[no_mangle]
 pub extern "C" fn pb_u32_checked_div_euclid(x: u32, y: u32) -> unsigned32::Checked
     ensures { λ r. ⌜ Answers (r .ok) (pos (r .value)) (checked-div 32 (pos x) (pos y)) ⌝ }
 {
-    unsigned32::checked_div_euclid(x, y)
+    unsigned32_division::checked_div_euclid(x, y)
 }
 
 #[no_mangle]
 pub extern "C" fn pb_u32_checked_rem(x: u32, y: u32) -> unsigned32::Checked
     ensures { λ r. ⌜ Answers (r .ok) (pos (r .value)) (checked-rem 32 (pos x) (pos y)) ⌝ }
 {
-    unsigned32::checked_rem(x, y)
+    unsigned32_division::checked_rem(x, y)
 }
 
 #[no_mangle]
 pub extern "C" fn pb_u32_checked_rem_euclid(x: u32, y: u32) -> unsigned32::Checked
     ensures { λ r. ⌜ Answers (r .ok) (pos (r .value)) (checked-rem 32 (pos x) (pos y)) ⌝ }
 {
-    unsigned32::checked_rem_euclid(x, y)
+    unsigned32_division::checked_rem_euclid(x, y)
 }
 
 #[no_mangle]
@@ -137,7 +137,7 @@ pub extern "C" fn pb_u32_saturating_mul(x: u32, y: u32) -> u32
 pub extern "C" fn pb_u32_is_multiple_of(x: u32, y: u32) -> bool
     ensures { λ r. ⌜ r ≡ is-multiple-of (pos x) (pos y) ⌝ }
 {
-    unsigned32::is_multiple_of(x, y)
+    unsigned32_division::is_multiple_of(x, y)
 }
 
 #[no_mangle]

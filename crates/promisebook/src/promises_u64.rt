@@ -39,14 +39,14 @@ pub extern "C" fn pb_u64_wrapping_mul(x: u64, y: u64) -> u64
 pub extern "C" fn pb_u64_wrapping_shl(x: u64, rhs: u32) -> u64
     ensures { λ r. ⌜ pos r ≡ wrapping-shl 64 (pos x) rhs ⌝ }
 {
-    unsigned64::wrapping_shl(x, rhs)
+    unsigned64_division::wrapping_shl(x, rhs)
 }
 
 #[no_mangle]
 pub extern "C" fn pb_u64_wrapping_shr(x: u64, rhs: u32) -> u64
     ensures { λ r. ⌜ pos r ≡ wrapping-shr 64 (pos x) rhs ⌝ }
 {
-    unsigned64::wrapping_shr(x, rhs)
+    unsigned64_division::wrapping_shr(x, rhs)
 }
 
 #[no_mangle]
@@ -81,35 +81,35 @@ pub extern "C" fn pb_u64_checked_mul(x: u64, y: u64) -> unsigned64::Checked
 pub extern "C" fn pb_u64_checked_next_multiple_of(x: u64, y: u64) -> unsigned64::Checked
     ensures { λ r. ⌜ Answers (r .ok) (pos (r .value)) (checked-next-multiple-of 64 (pos x) (pos y)) ⌝ }
 {
-    unsigned64::checked_next_multiple_of(x, y)
+    unsigned64_division::checked_next_multiple_of(x, y)
 }
 
 #[no_mangle]
 pub extern "C" fn pb_u64_checked_div(x: u64, y: u64) -> unsigned64::Checked
     ensures { λ r. ⌜ Answers (r .ok) (pos (r .value)) (checked-div 64 (pos x) (pos y)) ⌝ }
 {
-    unsigned64::checked_div(x, y)
+    unsigned64_division::checked_div(x, y)
 }
 
 #[no_mangle]
 pub extern "C" fn pb_u64_checked_div_euclid(x: u64, y: u64) -> unsigned64::Checked
     ensures { λ r. ⌜ Answers (r .ok) (pos (r .value)) (checked-div 64 (pos x) (pos y)) ⌝ }
 {
-    unsigned64::checked_div_euclid(x, y)
+    unsigned64_division::checked_div_euclid(x, y)
 }
 
 #[no_mangle]
 pub extern "C" fn pb_u64_checked_rem(x: u64, y: u64) -> unsigned64::Checked
     ensures { λ r. ⌜ Answers (r .ok) (pos (r .value)) (checked-rem 64 (pos x) (pos y)) ⌝ }
 {
-    unsigned64::checked_rem(x, y)
+    unsigned64_division::checked_rem(x, y)
 }
 
 #[no_mangle]
 pub extern "C" fn pb_u64_checked_rem_euclid(x: u64, y: u64) -> unsigned64::Checked
     ensures { λ r. ⌜ Answers (r .ok) (pos (r .value)) (checked-rem 64 (pos x) (pos y)) ⌝ }
 {
-    unsigned64::checked_rem_euclid(x, y)
+    unsigned64_division::checked_rem_euclid(x, y)
 }
 
 #[no_mangle]
@@ -137,7 +137,7 @@ pub extern "C" fn pb_u64_saturating_mul(x: u64, y: u64) -> u64
 pub extern "C" fn pb_u64_is_multiple_of(x: u64, y: u64) -> bool
     ensures { λ r. ⌜ r ≡ is-multiple-of (pos x) (pos y) ⌝ }
 {
-    unsigned64::is_multiple_of(x, y)
+    unsigned64_division::is_multiple_of(x, y)
 }
 
 #[no_mangle]

@@ -39,14 +39,14 @@ pub extern "C" fn pb_u8_wrapping_mul(x: u8, y: u8) -> u8
 pub extern "C" fn pb_u8_wrapping_shl(x: u8, rhs: u32) -> u8
     ensures { λ r. ⌜ pos r ≡ wrapping-shl 8 (pos x) rhs ⌝ }
 {
-    unsigned8::wrapping_shl(x, rhs)
+    unsigned8_division::wrapping_shl(x, rhs)
 }
 
 #[no_mangle]
 pub extern "C" fn pb_u8_wrapping_shr(x: u8, rhs: u32) -> u8
     ensures { λ r. ⌜ pos r ≡ wrapping-shr 8 (pos x) rhs ⌝ }
 {
-    unsigned8::wrapping_shr(x, rhs)
+    unsigned8_division::wrapping_shr(x, rhs)
 }
 
 #[no_mangle]
@@ -81,35 +81,35 @@ pub extern "C" fn pb_u8_checked_mul(x: u8, y: u8) -> unsigned8::Checked
 pub extern "C" fn pb_u8_checked_next_multiple_of(x: u8, y: u8) -> unsigned8::Checked
     ensures { λ r. ⌜ Answers (r .ok) (pos (r .value)) (checked-next-multiple-of 8 (pos x) (pos y)) ⌝ }
 {
-    unsigned8::checked_next_multiple_of(x, y)
+    unsigned8_division::checked_next_multiple_of(x, y)
 }
 
 #[no_mangle]
 pub extern "C" fn pb_u8_checked_div(x: u8, y: u8) -> unsigned8::Checked
     ensures { λ r. ⌜ Answers (r .ok) (pos (r .value)) (checked-div 8 (pos x) (pos y)) ⌝ }
 {
-    unsigned8::checked_div(x, y)
+    unsigned8_division::checked_div(x, y)
 }
 
 #[no_mangle]
 pub extern "C" fn pb_u8_checked_div_euclid(x: u8, y: u8) -> unsigned8::Checked
     ensures { λ r. ⌜ Answers (r .ok) (pos (r .value)) (checked-div 8 (pos x) (pos y)) ⌝ }
 {
-    unsigned8::checked_div_euclid(x, y)
+    unsigned8_division::checked_div_euclid(x, y)
 }
 
 #[no_mangle]
 pub extern "C" fn pb_u8_checked_rem(x: u8, y: u8) -> unsigned8::Checked
     ensures { λ r. ⌜ Answers (r .ok) (pos (r .value)) (checked-rem 8 (pos x) (pos y)) ⌝ }
 {
-    unsigned8::checked_rem(x, y)
+    unsigned8_division::checked_rem(x, y)
 }
 
 #[no_mangle]
 pub extern "C" fn pb_u8_checked_rem_euclid(x: u8, y: u8) -> unsigned8::Checked
     ensures { λ r. ⌜ Answers (r .ok) (pos (r .value)) (checked-rem 8 (pos x) (pos y)) ⌝ }
 {
-    unsigned8::checked_rem_euclid(x, y)
+    unsigned8_division::checked_rem_euclid(x, y)
 }
 
 #[no_mangle]
@@ -137,7 +137,7 @@ pub extern "C" fn pb_u8_saturating_mul(x: u8, y: u8) -> u8
 pub extern "C" fn pb_u8_is_multiple_of(x: u8, y: u8) -> bool
     ensures { λ r. ⌜ r ≡ is-multiple-of (pos x) (pos y) ⌝ }
 {
-    unsigned8::is_multiple_of(x, y)
+    unsigned8_division::is_multiple_of(x, y)
 }
 
 #[no_mangle]

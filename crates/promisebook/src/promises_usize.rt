@@ -39,14 +39,14 @@ pub extern "C" fn pb_usize_wrapping_mul(x: usize, y: usize) -> usize
 pub extern "C" fn pb_usize_wrapping_shl(x: usize, rhs: u32) -> usize
     ensures { λ r. ⌜ pos r ≡ wrapping-shl 64 (pos x) rhs ⌝ }
 {
-    unsigned_size::wrapping_shl(x, rhs)
+    unsigned_size_division::wrapping_shl(x, rhs)
 }
 
 #[no_mangle]
 pub extern "C" fn pb_usize_wrapping_shr(x: usize, rhs: u32) -> usize
     ensures { λ r. ⌜ pos r ≡ wrapping-shr 64 (pos x) rhs ⌝ }
 {
-    unsigned_size::wrapping_shr(x, rhs)
+    unsigned_size_division::wrapping_shr(x, rhs)
 }
 
 #[no_mangle]
@@ -81,35 +81,35 @@ pub extern "C" fn pb_usize_checked_mul(x: usize, y: usize) -> unsigned_size::Che
 pub extern "C" fn pb_usize_checked_next_multiple_of(x: usize, y: usize) -> unsigned_size::Checked
     ensures { λ r. ⌜ Answers (r .ok) (pos (r .value)) (checked-next-multiple-of 64 (pos x) (pos y)) ⌝ }
 {
-    unsigned_size::checked_next_multiple_of(x, y)
+    unsigned_size_division::checked_next_multiple_of(x, y)
 }
 
 #[no_mangle]
 pub extern "C" fn pb_usize_checked_div(x: usize, y: usize) -> unsigned_size::Checked
     ensures { λ r. ⌜ Answers (r .ok) (pos (r .value)) (checked-div 64 (pos x) (pos y)) ⌝ }
 {
-    unsigned_size::checked_div(x, y)
+    unsigned_size_division::checked_div(x, y)
 }
 
 #[no_mangle]
 pub extern "C" fn pb_usize_checked_div_euclid(x: usize, y: usize) -> unsigned_size::Checked
     ensures { λ r. ⌜ Answers (r .ok) (pos (r .value)) (checked-div 64 (pos x) (pos y)) ⌝ }
 {
-    unsigned_size::checked_div_euclid(x, y)
+    unsigned_size_division::checked_div_euclid(x, y)
 }
 
 #[no_mangle]
 pub extern "C" fn pb_usize_checked_rem(x: usize, y: usize) -> unsigned_size::Checked
     ensures { λ r. ⌜ Answers (r .ok) (pos (r .value)) (checked-rem 64 (pos x) (pos y)) ⌝ }
 {
-    unsigned_size::checked_rem(x, y)
+    unsigned_size_division::checked_rem(x, y)
 }
 
 #[no_mangle]
 pub extern "C" fn pb_usize_checked_rem_euclid(x: usize, y: usize) -> unsigned_size::Checked
     ensures { λ r. ⌜ Answers (r .ok) (pos (r .value)) (checked-rem 64 (pos x) (pos y)) ⌝ }
 {
-    unsigned_size::checked_rem_euclid(x, y)
+    unsigned_size_division::checked_rem_euclid(x, y)
 }
 
 #[no_mangle]
@@ -137,7 +137,7 @@ pub extern "C" fn pb_usize_saturating_mul(x: usize, y: usize) -> usize
 pub extern "C" fn pb_usize_is_multiple_of(x: usize, y: usize) -> bool
     ensures { λ r. ⌜ r ≡ is-multiple-of (pos x) (pos y) ⌝ }
 {
-    unsigned_size::is_multiple_of(x, y)
+    unsigned_size_division::is_multiple_of(x, y)
 }
 
 #[no_mangle]

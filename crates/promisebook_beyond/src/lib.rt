@@ -72,28 +72,28 @@ pub extern "C" fn pb_u64_to_be_bytes(x: u64, s: &mut [u8], at: usize) -> bool
 pub extern "C" fn pb_u8_read_decimal(s: &[u8], from: usize, to: usize) -> unsigned8::Checked
     ensures { λ r. ⌜ Answers (r .ok) (pos (r .value)) (said.naturalIn (unsigned 8) from to (now (s .entry))) ⌝ }
 {
-    decimal::read_u8(s, from, to)
+    decimal_read::read_u8(s, from, to)
 }
 
 #[no_mangle]
-pub extern "C" fn pb_u8_write_decimal(x: u8, s: &mut [u8], at: usize) -> decimal::Length
+pub extern "C" fn pb_u8_write_decimal(x: u8, s: &mut [u8], at: usize) -> decimal_write::Length
     ensures { λ r. ⌜ text.Shows (r .ok) (r .value) (now (s .entry)) at (text.natural x) (now (s .exit)) ⌝ }
 {
-    decimal::write_u8(s, at, x)
+    decimal_write::write_u8(s, at, x)
 }
 
 #[no_mangle]
 pub extern "C" fn pb_i8_read_decimal(s: &[u8], from: usize, to: usize) -> signed8::Checked
     ensures { λ r. ⌜ Answers (r .ok) (r .value) (said.wholeIn (signed 8) from to (now (s .entry))) ⌝ }
 {
-    decimal::read_i8(s, from, to)
+    decimal_read_signed::read_i8(s, from, to)
 }
 
 #[no_mangle]
-pub extern "C" fn pb_i8_write_decimal(x: i8, s: &mut [u8], at: usize) -> decimal::Length
+pub extern "C" fn pb_i8_write_decimal(x: i8, s: &mut [u8], at: usize) -> decimal_write::Length
     ensures { λ r. ⌜ text.Shows (r .ok) (r .value) (now (s .entry)) at (text.whole x) (now (s .exit)) ⌝ }
 {
-    decimal::write_i8(s, at, x)
+    decimal_write::write_i8(s, at, x)
 }
 
 // ---- decimal text, 16 bits
@@ -102,28 +102,28 @@ pub extern "C" fn pb_i8_write_decimal(x: i8, s: &mut [u8], at: usize) -> decimal
 pub extern "C" fn pb_u16_read_decimal(s: &[u8], from: usize, to: usize) -> unsigned16::Checked
     ensures { λ r. ⌜ Answers (r .ok) (pos (r .value)) (said.naturalIn (unsigned 16) from to (now (s .entry))) ⌝ }
 {
-    decimal::read_u16(s, from, to)
+    decimal_read::read_u16(s, from, to)
 }
 
 #[no_mangle]
-pub extern "C" fn pb_u16_write_decimal(x: u16, s: &mut [u8], at: usize) -> decimal::Length
+pub extern "C" fn pb_u16_write_decimal(x: u16, s: &mut [u8], at: usize) -> decimal_write::Length
     ensures { λ r. ⌜ text.Shows (r .ok) (r .value) (now (s .entry)) at (text.natural x) (now (s .exit)) ⌝ }
 {
-    decimal::write_u16(s, at, x)
+    decimal_write::write_u16(s, at, x)
 }
 
 #[no_mangle]
 pub extern "C" fn pb_i16_read_decimal(s: &[u8], from: usize, to: usize) -> signed16::Checked
     ensures { λ r. ⌜ Answers (r .ok) (r .value) (said.wholeIn (signed 16) from to (now (s .entry))) ⌝ }
 {
-    decimal::read_i16(s, from, to)
+    decimal_read_signed::read_i16(s, from, to)
 }
 
 #[no_mangle]
-pub extern "C" fn pb_i16_write_decimal(x: i16, s: &mut [u8], at: usize) -> decimal::Length
+pub extern "C" fn pb_i16_write_decimal(x: i16, s: &mut [u8], at: usize) -> decimal_write::Length
     ensures { λ r. ⌜ text.Shows (r .ok) (r .value) (now (s .entry)) at (text.whole x) (now (s .exit)) ⌝ }
 {
-    decimal::write_i16(s, at, x)
+    decimal_write::write_i16(s, at, x)
 }
 
 // ---- decimal text, 32 bits
@@ -132,28 +132,28 @@ pub extern "C" fn pb_i16_write_decimal(x: i16, s: &mut [u8], at: usize) -> decim
 pub extern "C" fn pb_u32_read_decimal(s: &[u8], from: usize, to: usize) -> unsigned32::Checked
     ensures { λ r. ⌜ Answers (r .ok) (pos (r .value)) (said.naturalIn (unsigned 32) from to (now (s .entry))) ⌝ }
 {
-    decimal::read_u32(s, from, to)
+    decimal_read::read_u32(s, from, to)
 }
 
 #[no_mangle]
-pub extern "C" fn pb_u32_write_decimal(x: u32, s: &mut [u8], at: usize) -> decimal::Length
+pub extern "C" fn pb_u32_write_decimal(x: u32, s: &mut [u8], at: usize) -> decimal_write::Length
     ensures { λ r. ⌜ text.Shows (r .ok) (r .value) (now (s .entry)) at (text.natural x) (now (s .exit)) ⌝ }
 {
-    decimal::write_u32(s, at, x)
+    decimal_write::write_u32(s, at, x)
 }
 
 #[no_mangle]
 pub extern "C" fn pb_i32_read_decimal(s: &[u8], from: usize, to: usize) -> signed32::Checked
     ensures { λ r. ⌜ Answers (r .ok) (r .value) (said.wholeIn (signed 32) from to (now (s .entry))) ⌝ }
 {
-    decimal::read_i32(s, from, to)
+    decimal_read_signed::read_i32(s, from, to)
 }
 
 #[no_mangle]
-pub extern "C" fn pb_i32_write_decimal(x: i32, s: &mut [u8], at: usize) -> decimal::Length
+pub extern "C" fn pb_i32_write_decimal(x: i32, s: &mut [u8], at: usize) -> decimal_write::Length
     ensures { λ r. ⌜ text.Shows (r .ok) (r .value) (now (s .entry)) at (text.whole x) (now (s .exit)) ⌝ }
 {
-    decimal::write_i32(s, at, x)
+    decimal_write::write_i32(s, at, x)
 }
 
 // ---- decimal text, 64 bits
@@ -162,28 +162,28 @@ pub extern "C" fn pb_i32_write_decimal(x: i32, s: &mut [u8], at: usize) -> decim
 pub extern "C" fn pb_u64_read_decimal(s: &[u8], from: usize, to: usize) -> unsigned64::Checked
     ensures { λ r. ⌜ Answers (r .ok) (pos (r .value)) (said.naturalIn (unsigned 64) from to (now (s .entry))) ⌝ }
 {
-    decimal::read_u64(s, from, to)
+    decimal_read::read_u64(s, from, to)
 }
 
 #[no_mangle]
-pub extern "C" fn pb_u64_write_decimal(x: u64, s: &mut [u8], at: usize) -> decimal::Length
+pub extern "C" fn pb_u64_write_decimal(x: u64, s: &mut [u8], at: usize) -> decimal_write::Length
     ensures { λ r. ⌜ text.Shows (r .ok) (r .value) (now (s .entry)) at (text.natural x) (now (s .exit)) ⌝ }
 {
-    decimal::write_u64(s, at, x)
+    decimal_write::write_u64(s, at, x)
 }
 
 #[no_mangle]
 pub extern "C" fn pb_i64_read_decimal(s: &[u8], from: usize, to: usize) -> signed64::Checked
     ensures { λ r. ⌜ Answers (r .ok) (r .value) (said.wholeIn (signed 64) from to (now (s .entry))) ⌝ }
 {
-    decimal::read_i64(s, from, to)
+    decimal_read_signed::read_i64(s, from, to)
 }
 
 #[no_mangle]
-pub extern "C" fn pb_i64_write_decimal(x: i64, s: &mut [u8], at: usize) -> decimal::Length
+pub extern "C" fn pb_i64_write_decimal(x: i64, s: &mut [u8], at: usize) -> decimal_write::Length
     ensures { λ r. ⌜ text.Shows (r .ok) (r .value) (now (s .entry)) at (text.whole x) (now (s .exit)) ⌝ }
 {
-    decimal::write_i64(s, at, x)
+    decimal_write::write_i64(s, at, x)
 }
 
 // ---- decimal text, the size type
@@ -192,26 +192,26 @@ pub extern "C" fn pb_i64_write_decimal(x: i64, s: &mut [u8], at: usize) -> decim
 pub extern "C" fn pb_usize_read_decimal(s: &[u8], from: usize, to: usize) -> unsigned_size::Checked
     ensures { λ r. ⌜ Answers (r .ok) (pos (r .value)) (said.naturalIn (unsigned 64) from to (now (s .entry))) ⌝ }
 {
-    decimal::read_usize(s, from, to)
+    decimal_read::read_usize(s, from, to)
 }
 
 #[no_mangle]
-pub extern "C" fn pb_usize_write_decimal(x: usize, s: &mut [u8], at: usize) -> decimal::Length
+pub extern "C" fn pb_usize_write_decimal(x: usize, s: &mut [u8], at: usize) -> decimal_write::Length
     ensures { λ r. ⌜ text.Shows (r .ok) (r .value) (now (s .entry)) at (text.natural x) (now (s .exit)) ⌝ }
 {
-    decimal::write_usize(s, at, x)
+    decimal_write::write_usize(s, at, x)
 }
 
 #[no_mangle]
 pub extern "C" fn pb_isize_read_decimal(s: &[u8], from: usize, to: usize) -> signed_size::Checked
     ensures { λ r. ⌜ Answers (r .ok) (r .value) (said.wholeIn (signed 64) from to (now (s .entry))) ⌝ }
 {
-    decimal::read_isize(s, from, to)
+    decimal_read_signed::read_isize(s, from, to)
 }
 
 #[no_mangle]
-pub extern "C" fn pb_isize_write_decimal(x: isize, s: &mut [u8], at: usize) -> decimal::Length
+pub extern "C" fn pb_isize_write_decimal(x: isize, s: &mut [u8], at: usize) -> decimal_write::Length
     ensures { λ r. ⌜ text.Shows (r .ok) (r .value) (now (s .entry)) at (text.whole x) (now (s .exit)) ⌝ }
 {
-    decimal::write_isize(s, at, x)
+    decimal_write::write_isize(s, at, x)
 }

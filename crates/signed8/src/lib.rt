@@ -1,12 +1,11 @@
-// Signed integers of 8 bits: one operation on whole numbers, then wrap or refuse (theory_whole). No function asks anything of its caller.
+// Signed integers of 8 bits: sums, differences and products, then wrap or refuse (theory_whole). No function asks anything of its caller.
 ghost use mathlib.Core.Path.{_≡_};
-ghost use mathlib.Core.Bool.{true, false, not, cond, _&&_};
-ghost use Prim.Native.Nat.{_%_, _^_};
+ghost use mathlib.Core.Bool.{not, cond, _&&_};
 ghost use lib.IntN.{ℤ, pos, negℤ, natAbs, _+ℤ_, _-ℤ_, _*ℤ_};
-ghost use lib.Signed.{quotZ, remZ};
+ghost use lib.Signed.{quotZ};
 ghost use Rattle.theory_whole.specs.Kind.{signed};
-ghost use Rattle.theory_whole.specs.Division.{ediv, emod, isZero};
-ghost use Rattle.theory_whole.specs.Fit.{fits, wrap, refuse, divided, Answers};
+ghost use Rattle.theory_whole.specs.Division.{isZero};
+ghost use Rattle.theory_whole.specs.Fit.{fits, wrap, refuse, Answers};
 ghost use Rattle.theory_whole.specs.Order.{order};
 use theory_whole::Ordering;
 
@@ -54,18 +53,6 @@ pub fn wrapping_mul(a: i8, b: i8) -> i8
     ensures { λ r. ⌜ r ≡ wrap (signed 8) (a *ℤ b) ⌝ }
 {
     wrapped(unsigned8::wrapping_mul(unsigned8::wrapped(a), unsigned8::wrapped(b)))
-}
-
-pub fn wrapping_shl(a: i8, distance: u32) -> i8
-    ensures { λ r. ⌜ r ≡ wrap (signed 8) (a *ℤ pos (2 ^ (distance % 8))) ⌝ }
-{
-    a << (distance % 8)
-}
-
-pub fn wrapping_shr(a: i8, distance: u32) -> i8
-    ensures { λ r. ⌜ r ≡ wrap (signed 8) (ediv a (pos (2 ^ (distance % 8)))) ⌝ }
-{
-    a >> (distance % 8)
 }
 
 // ---- checked sums and differences
@@ -202,10 +189,8 @@ pub fn checked_mul(a: i8, b: i8) -> Checked
     }
 }
 
-// ---- checked divisions
-
 // Whether a / b has a value: the smallest number by -1 has none.
-fn divides(a: i8, b: i8) -> bool
+pub fn divides(a: i8, b: i8) -> bool
     ensures { λ r. ⌜ r ≡ not (isZero b) && fits (signed 8) (quotZ a b) ⌝ }
 {
     if b == 0 {
@@ -217,99 +202,7 @@ fn divides(a: i8, b: i8) -> bool
     }
 }
 
-pub fn checked_div(a: i8, b: i8) -> Checked
-    ensures { λ r. ⌜ Answers (r .ok) (r .value) (divided (signed 8) b (quotZ a b) (quotZ a b)) ⌝ }
-{
-    if divides(a, b) {
-        Checked {
-            ok: true,
-            value: a / b,
-        }
-    } else {
-        Checked {
-            ok: false,
-            value: 0,
-        }
-    }
-}
-
-pub fn checked_rem(a: i8, b: i8) -> Checked
-    ensures { λ r. ⌜ Answers (r .ok) (r .value) (divided (signed 8) b (quotZ a b) (remZ a b)) ⌝ }
-{
-    if divides(a, b) {
-        Checked {
-            ok: true,
-            value: a % b,
-        }
-    } else {
-        Checked {
-            ok: false,
-            value: 0,
-        }
-    }
-}
-
-pub fn checked_div_euclid(a: i8, b: i8) -> Checked
-    ensures { λ r. ⌜ Answers (r .ok) (r .value) (divided (signed 8) b (ediv a b) (ediv a b)) ⌝ }
-{
-    if divides(a, b) {
-        let quotient = a / b;
-        if a % b < 0 {
-            if b < 0 {
-                Checked {
-                    ok: true,
-                    value: quotient + 1,
-                }
-            } else {
-                Checked {
-                    ok: true,
-                    value: quotient - 1,
-                }
-            }
-        } else {
-            Checked {
-                ok: true,
-                value: quotient,
-            }
-        }
-    } else {
-        Checked {
-            ok: false,
-            value: 0,
-        }
-    }
-}
-
-pub fn checked_rem_euclid(a: i8, b: i8) -> Checked
-    ensures { λ r. ⌜ Answers (r .ok) (r .value) (divided (signed 8) b (ediv a b) (emod a b)) ⌝ }
-{
-    if divides(a, b) {
-        let remainder = a % b;
-        if remainder < 0 {
-            if b < 0 {
-                Checked {
-                    ok: true,
-                    value: remainder - b,
-                }
-            } else {
-                Checked {
-                    ok: true,
-                    value: remainder + b,
-                }
-            }
-        } else {
-            Checked {
-                ok: true,
-                value: remainder,
-            }
-        }
-    } else {
-        Checked {
-            ok: false,
-            value: 0,
-        }
-    }
-}
+// ---- order
 
 pub fn compare(a: i8, b: i8) -> Ordering
     ensures { λ r. ⌜ r ≡ order a b ⌝ }

@@ -1,12 +1,11 @@
-// Signed integers of 64 bits: one operation on whole numbers, then wrap or refuse (theory_whole). No function asks anything of its caller.
+// Signed integers of 64 bits: sums, differences and products, then wrap or refuse (theory_whole). No function asks anything of its caller.
 ghost use mathlib.Core.Path.{_≡_};
-ghost use mathlib.Core.Bool.{true, false, not, cond, _&&_};
-ghost use Prim.Native.Nat.{_%_, _^_};
+ghost use mathlib.Core.Bool.{not, cond, _&&_};
 ghost use lib.IntN.{ℤ, pos, negℤ, natAbs, _+ℤ_, _-ℤ_, _*ℤ_};
-ghost use lib.Signed.{quotZ, remZ};
+ghost use lib.Signed.{quotZ};
 ghost use Rattle.theory_whole.specs.Kind.{signed};
-ghost use Rattle.theory_whole.specs.Division.{ediv, emod, isZero};
-ghost use Rattle.theory_whole.specs.Fit.{fits, wrap, refuse, divided, Answers};
+ghost use Rattle.theory_whole.specs.Division.{isZero};
+ghost use Rattle.theory_whole.specs.Fit.{fits, wrap, refuse, Answers};
 ghost use Rattle.theory_whole.specs.Order.{order};
 use theory_whole::Ordering;
 
@@ -58,18 +57,6 @@ pub fn wrapping_mul(a: isize, b: isize) -> isize
     ensures { λ r. ⌜ r ≡ wrap (signed 64) (a *ℤ b) ⌝ }
 {
     wrapped(unsigned_size::wrapping_mul(unsigned_size::wrapped(a), unsigned_size::wrapped(b)))
-}
-
-pub fn wrapping_shl(a: isize, distance: u32) -> isize
-    ensures { λ r. ⌜ r ≡ wrap (signed 64) (a *ℤ pos (2 ^ (distance % 64))) ⌝ }
-{
-    a << (distance % 64)
-}
-
-pub fn wrapping_shr(a: isize, distance: u32) -> isize
-    ensures { λ r. ⌜ r ≡ wrap (signed 64) (ediv a (pos (2 ^ (distance % 64)))) ⌝ }
-{
-    a >> (distance % 64)
 }
 
 // ---- checked sums and differences
@@ -210,10 +197,8 @@ pub fn checked_mul(a: isize, b: isize) -> Checked
     }
 }
 
-// ---- checked divisions
-
 // Whether a / b has a value: the smallest number by -1 has none.
-fn divides(a: isize, b: isize) -> bool
+pub fn divides(a: isize, b: isize) -> bool
     ensures { λ r. ⌜ r ≡ not (isZero b) && fits (signed 64) (quotZ a b) ⌝ }
 {
     if b == 0 {
@@ -225,99 +210,7 @@ fn divides(a: isize, b: isize) -> bool
     }
 }
 
-pub fn checked_div(a: isize, b: isize) -> Checked
-    ensures { λ r. ⌜ Answers (r .ok) (r .value) (divided (signed 64) b (quotZ a b) (quotZ a b)) ⌝ }
-{
-    if divides(a, b) {
-        Checked {
-            ok: true,
-            value: a / b,
-        }
-    } else {
-        Checked {
-            ok: false,
-            value: 0,
-        }
-    }
-}
-
-pub fn checked_rem(a: isize, b: isize) -> Checked
-    ensures { λ r. ⌜ Answers (r .ok) (r .value) (divided (signed 64) b (quotZ a b) (remZ a b)) ⌝ }
-{
-    if divides(a, b) {
-        Checked {
-            ok: true,
-            value: a % b,
-        }
-    } else {
-        Checked {
-            ok: false,
-            value: 0,
-        }
-    }
-}
-
-pub fn checked_div_euclid(a: isize, b: isize) -> Checked
-    ensures { λ r. ⌜ Answers (r .ok) (r .value) (divided (signed 64) b (ediv a b) (ediv a b)) ⌝ }
-{
-    if divides(a, b) {
-        let quotient = a / b;
-        if a % b < 0 {
-            if b < 0 {
-                Checked {
-                    ok: true,
-                    value: quotient + 1,
-                }
-            } else {
-                Checked {
-                    ok: true,
-                    value: quotient - 1,
-                }
-            }
-        } else {
-            Checked {
-                ok: true,
-                value: quotient,
-            }
-        }
-    } else {
-        Checked {
-            ok: false,
-            value: 0,
-        }
-    }
-}
-
-pub fn checked_rem_euclid(a: isize, b: isize) -> Checked
-    ensures { λ r. ⌜ Answers (r .ok) (r .value) (divided (signed 64) b (ediv a b) (emod a b)) ⌝ }
-{
-    if divides(a, b) {
-        let remainder = a % b;
-        if remainder < 0 {
-            if b < 0 {
-                Checked {
-                    ok: true,
-                    value: remainder - b,
-                }
-            } else {
-                Checked {
-                    ok: true,
-                    value: remainder + b,
-                }
-            }
-        } else {
-            Checked {
-                ok: true,
-                value: remainder,
-            }
-        }
-    } else {
-        Checked {
-            ok: false,
-            value: 0,
-        }
-    }
-}
+// ---- order
 
 pub fn compare(a: isize, b: isize) -> Ordering
     ensures { λ r. ⌜ r ≡ order a b ⌝ }

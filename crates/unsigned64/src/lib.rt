@@ -1,13 +1,8 @@
-// Unsigned integers of 64 bits: one operation on whole numbers, then wrap, refuse or clamp (theory_whole). No function asks anything of its caller.
+// Unsigned integers of 64 bits: sums, differences and products, then wrap, refuse or clamp (theory_whole). No function asks anything of its caller.
 ghost use mathlib.Core.Path.{_≡_};
-ghost use mathlib.Core.Bool.{true, false, not};
-ghost use Prim.Native.Nat.{_%_, _^_};
 ghost use lib.IntN.{ℤ, pos, _+ℤ_, _-ℤ_, _*ℤ_};
-ghost use lib.Signed.{quotZ, remZ};
 ghost use Rattle.theory_whole.specs.Kind.{unsigned};
-ghost use Rattle.theory_whole.specs.Division.{ediv, emod, isZero};
-ghost use Rattle.theory_whole.specs.Fit.{wrap, clamp, refuse, divided, only-if, Answers};
-ghost use Rattle.theory_whole.specs.Multiple.{isMultiple, nextMultiple};
+ghost use Rattle.theory_whole.specs.Fit.{wrap, clamp, refuse, Answers};
 ghost use Rattle.theory_whole.specs.Order.{order};
 use theory_whole::Ordering;
 
@@ -63,18 +58,6 @@ pub fn wrapping_mul(a: u64, b: u64) -> u64
     let b_high = b / 4294967296;
     let cross = wrapping_add(a_low * b_high, b_low * a_high);
     wrapping_add(cross << 32, a_low * b_low)
-}
-
-pub fn wrapping_shl(a: u64, distance: u32) -> u64
-    ensures { λ r. ⌜ pos r ≡ wrap (unsigned 64) (pos a *ℤ pos (2 ^ (distance % 64))) ⌝ }
-{
-    a << (distance % 64)
-}
-
-pub fn wrapping_shr(a: u64, distance: u32) -> u64
-    ensures { λ r. ⌜ pos r ≡ wrap (unsigned 64) (ediv (pos a) (pos (2 ^ (distance % 64)))) ⌝ }
-{
-    a >> (distance % 64)
 }
 
 // ---- checked
@@ -149,67 +132,6 @@ pub fn checked_mul(a: u64, b: u64) -> Checked
     }
 }
 
-pub fn checked_div(a: u64, b: u64) -> Checked
-    ensures { λ r. ⌜ Answers (r .ok) (pos (r .value)) (divided (unsigned 64) (pos b) (quotZ (pos a) (pos b)) (quotZ (pos a) (pos b))) ⌝ }
-{
-    if b == 0 {
-        Checked {
-            ok: false,
-            value: 0,
-        }
-    } else {
-        Checked {
-            ok: true,
-            value: a / b,
-        }
-    }
-}
-
-pub fn checked_rem(a: u64, b: u64) -> Checked
-    ensures { λ r. ⌜ Answers (r .ok) (pos (r .value)) (divided (unsigned 64) (pos b) (quotZ (pos a) (pos b)) (remZ (pos a) (pos b))) ⌝ }
-{
-    if b == 0 {
-        Checked {
-            ok: false,
-            value: 0,
-        }
-    } else {
-        Checked {
-            ok: true,
-            value: a % b,
-        }
-    }
-}
-
-pub fn checked_div_euclid(a: u64, b: u64) -> Checked
-    ensures { λ r. ⌜ Answers (r .ok) (pos (r .value)) (divided (unsigned 64) (pos b) (ediv (pos a) (pos b)) (ediv (pos a) (pos b))) ⌝ }
-{
-    checked_div(a, b)
-}
-
-pub fn checked_rem_euclid(a: u64, b: u64) -> Checked
-    ensures { λ r. ⌜ Answers (r .ok) (pos (r .value)) (divided (unsigned 64) (pos b) (ediv (pos a) (pos b)) (emod (pos a) (pos b))) ⌝ }
-{
-    checked_rem(a, b)
-}
-
-pub fn checked_next_multiple_of(a: u64, b: u64) -> Checked
-    ensures { λ r. ⌜ Answers (r .ok) (pos (r .value)) (only-if (not (isZero (pos b))) (refuse (unsigned 64) (pos (nextMultiple a b)))) ⌝ }
-{
-    if b == 0 {
-        return Checked {
-            ok: false,
-            value: 0,
-        };
-    }
-    let past = a % b;
-    if past == 0 {
-        Checked { ok: true, value: a }
-    } else {
-        checked_add(a, b - past)
-    }
-}
-
 // ---- saturating
 
 pub fn saturating_add(a: u64, b: u64) -> u64
@@ -231,13 +153,7 @@ pub fn saturating_mul(a: u64, b: u64) -> u64
     if product.ok { product.value } else { u64::MAX }
 }
 
-// ---- tests
-
-pub fn is_multiple_of(a: u64, b: u64) -> bool
-    ensures { λ r. ⌜ r ≡ isMultiple a b ⌝ }
-{
-    if b == 0 { a == 0 } else { a % b == 0 }
-}
+// ---- order
 
 pub fn compare(a: u64, b: u64) -> Ordering
     ensures { λ r. ⌜ r ≡ order (pos a) (pos b) ⌝ }

@@ -1,13 +1,8 @@
-// Unsigned integers of 8 bits: one operation on whole numbers, then wrap, refuse or clamp (theory_whole). No function asks anything of its caller.
+// Unsigned integers of 8 bits: sums, differences and products, then wrap, refuse or clamp (theory_whole). No function asks anything of its caller.
 ghost use mathlib.Core.Path.{_≡_};
-ghost use mathlib.Core.Bool.{true, false, not};
-ghost use Prim.Native.Nat.{_%_, _^_};
 ghost use lib.IntN.{ℤ, pos, _+ℤ_, _-ℤ_, _*ℤ_};
-ghost use lib.Signed.{quotZ, remZ};
 ghost use Rattle.theory_whole.specs.Kind.{unsigned};
-ghost use Rattle.theory_whole.specs.Division.{ediv, emod, isZero};
-ghost use Rattle.theory_whole.specs.Fit.{wrap, clamp, refuse, divided, only-if, Answers};
-ghost use Rattle.theory_whole.specs.Multiple.{isMultiple, nextMultiple};
+ghost use Rattle.theory_whole.specs.Fit.{wrap, clamp, refuse, Answers};
 ghost use Rattle.theory_whole.specs.Order.{order};
 use theory_whole::Ordering;
 
@@ -53,18 +48,6 @@ pub fn wrapping_mul(a: u8, b: u8) -> u8
     ensures { λ r. ⌜ pos r ≡ wrap (unsigned 8) (pos a *ℤ pos b) ⌝ }
 {
     ((a as u64) * (b as u64) % 256) as u8
-}
-
-pub fn wrapping_shl(a: u8, distance: u32) -> u8
-    ensures { λ r. ⌜ pos r ≡ wrap (unsigned 8) (pos a *ℤ pos (2 ^ (distance % 8))) ⌝ }
-{
-    a << (distance % 8)
-}
-
-pub fn wrapping_shr(a: u8, distance: u32) -> u8
-    ensures { λ r. ⌜ pos r ≡ wrap (unsigned 8) (ediv (pos a) (pos (2 ^ (distance % 8)))) ⌝ }
-{
-    a >> (distance % 8)
 }
 
 // ---- checked
@@ -139,67 +122,6 @@ pub fn checked_mul(a: u8, b: u8) -> Checked
     }
 }
 
-pub fn checked_div(a: u8, b: u8) -> Checked
-    ensures { λ r. ⌜ Answers (r .ok) (pos (r .value)) (divided (unsigned 8) (pos b) (quotZ (pos a) (pos b)) (quotZ (pos a) (pos b))) ⌝ }
-{
-    if b == 0 {
-        Checked {
-            ok: false,
-            value: 0,
-        }
-    } else {
-        Checked {
-            ok: true,
-            value: a / b,
-        }
-    }
-}
-
-pub fn checked_rem(a: u8, b: u8) -> Checked
-    ensures { λ r. ⌜ Answers (r .ok) (pos (r .value)) (divided (unsigned 8) (pos b) (quotZ (pos a) (pos b)) (remZ (pos a) (pos b))) ⌝ }
-{
-    if b == 0 {
-        Checked {
-            ok: false,
-            value: 0,
-        }
-    } else {
-        Checked {
-            ok: true,
-            value: a % b,
-        }
-    }
-}
-
-pub fn checked_div_euclid(a: u8, b: u8) -> Checked
-    ensures { λ r. ⌜ Answers (r .ok) (pos (r .value)) (divided (unsigned 8) (pos b) (ediv (pos a) (pos b)) (ediv (pos a) (pos b))) ⌝ }
-{
-    checked_div(a, b)
-}
-
-pub fn checked_rem_euclid(a: u8, b: u8) -> Checked
-    ensures { λ r. ⌜ Answers (r .ok) (pos (r .value)) (divided (unsigned 8) (pos b) (ediv (pos a) (pos b)) (emod (pos a) (pos b))) ⌝ }
-{
-    checked_rem(a, b)
-}
-
-pub fn checked_next_multiple_of(a: u8, b: u8) -> Checked
-    ensures { λ r. ⌜ Answers (r .ok) (pos (r .value)) (only-if (not (isZero (pos b))) (refuse (unsigned 8) (pos (nextMultiple a b)))) ⌝ }
-{
-    if b == 0 {
-        return Checked {
-            ok: false,
-            value: 0,
-        };
-    }
-    let past = a % b;
-    if past == 0 {
-        Checked { ok: true, value: a }
-    } else {
-        checked_add(a, b - past)
-    }
-}
-
 // ---- saturating
 
 pub fn saturating_add(a: u8, b: u8) -> u8
@@ -221,13 +143,7 @@ pub fn saturating_mul(a: u8, b: u8) -> u8
     if product.ok { product.value } else { u8::MAX }
 }
 
-// ---- tests
-
-pub fn is_multiple_of(a: u8, b: u8) -> bool
-    ensures { λ r. ⌜ r ≡ isMultiple a b ⌝ }
-{
-    if b == 0 { a == 0 } else { a % b == 0 }
-}
+// ---- order
 
 pub fn compare(a: u8, b: u8) -> Ordering
     ensures { λ r. ⌜ r ≡ order (pos a) (pos b) ⌝ }

@@ -6,10 +6,10 @@ use Rattle.ask.proofs.lines.answered.Statement.{statement}
 use Rattle.ask.proofs.lines.answered.Tie as tie
 
 abbrev Inv-loop : tie.InvT-loop
-Inv-loop block line₀ bytes₀ other₀ out₀ next₀ at₀ line bytes other out next at = (at ≤ length block) × (length line ≡ length line₀) × (length bytes ≡ length bytes₀) × (length other ≡ length other₀) × (length out ≡ length out₀)
+Inv-loop block line₀ out₀ next₀ at₀ line out next at = (at ≤ length block) × (length line ≡ length line₀) × (length out ≡ length out₀)
 
 abbrev μ-loop : tie.MeasureT-loop
-μ-loop block line₀ bytes₀ other₀ out₀ next₀ at₀ line bytes other out next at = length block - at
+μ-loop block line₀ out₀ next₀ at₀ line out next at = length block - at
 
 pub answered-spec : {M : Type 1} → statement M
 answered-spec =
@@ -23,11 +23,7 @@ answered-spec =
     (λ c. search needs)
     (λ c. search needs)
     (λ c. search needs)
-    (λ c. search needs)
-    (λ c. search needs)
     (λ c κs. search needs)
-    (λ c. search needs)
-    (λ c. search needs)
     (λ c. search needs)
     (λ c. search needs)
     (λ c. search needs)

@@ -5,10 +5,10 @@ use Rattle.ask.proofs.lines.run.Statement.{statement}
 use Rattle.ask.proofs.lines.run.Tie as tie
 
 abbrev Inv-loop : tie.InvT-loop
-Inv-loop block₀ line₀ bytes₀ other₀ out₀ state₀ turns₀ block line bytes other out state turns = (length block ≡ length block₀) × (length line ≡ length line₀) × (length bytes ≡ length bytes₀) × (length other ≡ length other₀) × (length out ≡ length out₀)
+Inv-loop block₀ line₀ out₀ state₀ turns₀ block line out state turns = (length block ≡ length block₀) × (length line ≡ length line₀) × (length out ≡ length out₀)
 
 abbrev μ-loop : tie.MeasureT-loop
-μ-loop block₀ line₀ bytes₀ other₀ out₀ state₀ turns₀ block line bytes other out state turns = turns
+μ-loop block₀ line₀ out₀ state₀ turns₀ block line out state turns = turns
 
 pub run-spec : {M : Type 1} → statement M
 run-spec =
@@ -18,10 +18,6 @@ run-spec =
     μ-loop
     (λ c. search needs)
     (λ c κs. search needs)
-    (λ c. search needs)
-    (λ c. search needs)
-    (λ c. search needs)
-    (λ c. search needs)
     (λ c. search needs)
     (λ c. search needs)
     (λ c. search needs)

@@ -1,0 +1,179 @@
+// Numbers with a sign or none, read from a part of a slice that says them in decimal (theory_decimal): '-', and then a number as decimal_read reads it. No function asks anything of its caller.
+ghost use Rattle.theory_whole.specs.Kind.{signed};
+ghost use Rattle.theory_whole.specs.Fit.{Answers};
+ghost use Rattle.theory_decimal.specs.Read as said;
+
+pub fn read_i8(s: &[u8], from: usize, to: usize) -> signed8::Checked
+    ensures { λ r. ⌜ Answers (r .ok) (r .value) (said.wholeIn (signed 8) from to (now (s .entry))) ⌝ }
+{
+    if s.len() < to {
+        return signed8::Checked {
+            ok: false,
+            value: 0,
+        };
+    }
+    if to <= from {
+        return signed8::Checked {
+            ok: false,
+            value: 0,
+        };
+    }
+    if s[from] == 0x2d {
+        let magnitude = decimal_read::read_u8(s, from + 1, to);
+        if !magnitude.ok {
+            return signed8::Checked {
+                ok: false,
+                value: 0,
+            };
+        }
+        return signed8::with_sign(true, magnitude.value);
+    }
+    let magnitude = decimal_read::read_u8(s, from, to);
+    if !magnitude.ok {
+        return signed8::Checked {
+            ok: false,
+            value: 0,
+        };
+    }
+    signed8::with_sign(false, magnitude.value)
+}
+
+pub fn read_i16(s: &[u8], from: usize, to: usize) -> signed16::Checked
+    ensures { λ r. ⌜ Answers (r .ok) (r .value) (said.wholeIn (signed 16) from to (now (s .entry))) ⌝ }
+{
+    if s.len() < to {
+        return signed16::Checked {
+            ok: false,
+            value: 0,
+        };
+    }
+    if to <= from {
+        return signed16::Checked {
+            ok: false,
+            value: 0,
+        };
+    }
+    if s[from] == 0x2d {
+        let magnitude = decimal_read::read_u16(s, from + 1, to);
+        if !magnitude.ok {
+            return signed16::Checked {
+                ok: false,
+                value: 0,
+            };
+        }
+        return signed16::with_sign(true, magnitude.value);
+    }
+    let magnitude = decimal_read::read_u16(s, from, to);
+    if !magnitude.ok {
+        return signed16::Checked {
+            ok: false,
+            value: 0,
+        };
+    }
+    signed16::with_sign(false, magnitude.value)
+}
+
+pub fn read_i32(s: &[u8], from: usize, to: usize) -> signed32::Checked
+    ensures { λ r. ⌜ Answers (r .ok) (r .value) (said.wholeIn (signed 32) from to (now (s .entry))) ⌝ }
+{
+    if s.len() < to {
+        return signed32::Checked {
+            ok: false,
+            value: 0,
+        };
+    }
+    if to <= from {
+        return signed32::Checked {
+            ok: false,
+            value: 0,
+        };
+    }
+    if s[from] == 0x2d {
+        let magnitude = decimal_read::read_u32(s, from + 1, to);
+        if !magnitude.ok {
+            return signed32::Checked {
+                ok: false,
+                value: 0,
+            };
+        }
+        return signed32::with_sign(true, magnitude.value);
+    }
+    let magnitude = decimal_read::read_u32(s, from, to);
+    if !magnitude.ok {
+        return signed32::Checked {
+            ok: false,
+            value: 0,
+        };
+    }
+    signed32::with_sign(false, magnitude.value)
+}
+
+pub fn read_i64(s: &[u8], from: usize, to: usize) -> signed64::Checked
+    ensures { λ r. ⌜ Answers (r .ok) (r .value) (said.wholeIn (signed 64) from to (now (s .entry))) ⌝ }
+{
+    if s.len() < to {
+        return signed64::Checked {
+            ok: false,
+            value: 0,
+        };
+    }
+    if to <= from {
+        return signed64::Checked {
+            ok: false,
+            value: 0,
+        };
+    }
+    if s[from] == 0x2d {
+        let magnitude = decimal_read::read_u64(s, from + 1, to);
+        if !magnitude.ok {
+            return signed64::Checked {
+                ok: false,
+                value: 0,
+            };
+        }
+        return signed64::with_sign(true, magnitude.value);
+    }
+    let magnitude = decimal_read::read_u64(s, from, to);
+    if !magnitude.ok {
+        return signed64::Checked {
+            ok: false,
+            value: 0,
+        };
+    }
+    signed64::with_sign(false, magnitude.value)
+}
+
+pub fn read_isize(s: &[u8], from: usize, to: usize) -> signed_size::Checked
+    ensures { λ r. ⌜ Answers (r .ok) (r .value) (said.wholeIn (signed 64) from to (now (s .entry))) ⌝ }
+{
+    if s.len() < to {
+        return signed_size::Checked {
+            ok: false,
+            value: 0,
+        };
+    }
+    if to <= from {
+        return signed_size::Checked {
+            ok: false,
+            value: 0,
+        };
+    }
+    if s[from] == 0x2d {
+        let magnitude = decimal_read::read_usize(s, from + 1, to);
+        if !magnitude.ok {
+            return signed_size::Checked {
+                ok: false,
+                value: 0,
+            };
+        }
+        return signed_size::with_sign(true, magnitude.value);
+    }
+    let magnitude = decimal_read::read_usize(s, from, to);
+    if !magnitude.ok {
+        return signed_size::Checked {
+            ok: false,
+            value: 0,
+        };
+    }
+    signed_size::with_sign(false, magnitude.value)
+}

@@ -1,0 +1,10 @@
+// What the questions have of i16, whose numbers are held as their bits.
+use numbered::Answer;
+
+pub fn read(s: &[u8], from: usize, to: usize) -> Answer {
+    let number = promisebook_beyond::pb_i16_read_decimal(s, from, to);
+    Answer {
+        ok: number.ok,
+        bits: unsigned16::wrapped(number.value) as u64,
+    }
+}

@@ -1,0 +1,96 @@
+// Unsigned integers of 8 bits: quotients, remainders and multiples, and shifts, which multiply and divide by powers of two (theory_whole). No function asks anything of its caller.
+ghost use mathlib.Core.Path.{_≡_};
+ghost use mathlib.Core.Bool.{not};
+ghost use Prim.Native.Nat.{_%_, _^_};
+ghost use lib.IntN.{pos, _*ℤ_};
+ghost use lib.Signed.{quotZ, remZ};
+ghost use Rattle.theory_whole.specs.Kind.{unsigned};
+ghost use Rattle.theory_whole.specs.Division.{ediv, emod, isZero};
+ghost use Rattle.theory_whole.specs.Fit.{wrap, refuse, divided, only-if, Answers};
+ghost use Rattle.theory_whole.specs.Multiple.{isMultiple, nextMultiple};
+use unsigned8::Checked;
+
+// ---- quotients and remainders
+
+pub fn checked_div(a: u8, b: u8) -> Checked
+    ensures { λ r. ⌜ Answers (r .ok) (pos (r .value)) (divided (unsigned 8) (pos b) (quotZ (pos a) (pos b)) (quotZ (pos a) (pos b))) ⌝ }
+{
+    if b == 0 {
+        Checked {
+            ok: false,
+            value: 0,
+        }
+    } else {
+        Checked {
+            ok: true,
+            value: a / b,
+        }
+    }
+}
+
+pub fn checked_rem(a: u8, b: u8) -> Checked
+    ensures { λ r. ⌜ Answers (r .ok) (pos (r .value)) (divided (unsigned 8) (pos b) (quotZ (pos a) (pos b)) (remZ (pos a) (pos b))) ⌝ }
+{
+    if b == 0 {
+        Checked {
+            ok: false,
+            value: 0,
+        }
+    } else {
+        Checked {
+            ok: true,
+            value: a % b,
+        }
+    }
+}
+
+pub fn checked_div_euclid(a: u8, b: u8) -> Checked
+    ensures { λ r. ⌜ Answers (r .ok) (pos (r .value)) (divided (unsigned 8) (pos b) (ediv (pos a) (pos b)) (ediv (pos a) (pos b))) ⌝ }
+{
+    checked_div(a, b)
+}
+
+pub fn checked_rem_euclid(a: u8, b: u8) -> Checked
+    ensures { λ r. ⌜ Answers (r .ok) (pos (r .value)) (divided (unsigned 8) (pos b) (ediv (pos a) (pos b)) (emod (pos a) (pos b))) ⌝ }
+{
+    checked_rem(a, b)
+}
+
+// ---- multiples
+
+pub fn checked_next_multiple_of(a: u8, b: u8) -> Checked
+    ensures { λ r. ⌜ Answers (r .ok) (pos (r .value)) (only-if (not (isZero (pos b))) (refuse (unsigned 8) (pos (nextMultiple a b)))) ⌝ }
+{
+    if b == 0 {
+        return Checked {
+            ok: false,
+            value: 0,
+        };
+    }
+    let past = a % b;
+    if past == 0 {
+        Checked { ok: true, value: a }
+    } else {
+        unsigned8::checked_add(a, b - past)
+    }
+}
+
+pub fn is_multiple_of(a: u8, b: u8) -> bool
+    ensures { λ r. ⌜ r ≡ isMultiple a b ⌝ }
+{
+    if b == 0 { a == 0 } else { a % b == 0 }
+}
+
+// ---- shifts
+
+pub fn wrapping_shl(a: u8, distance: u32) -> u8
+    ensures { λ r. ⌜ pos r ≡ wrap (unsigned 8) (pos a *ℤ pos (2 ^ (distance % 8))) ⌝ }
+{
+    a << (distance % 8)
+}
+
+pub fn wrapping_shr(a: u8, distance: u32) -> u8
+    ensures { λ r. ⌜ pos r ≡ wrap (unsigned 8) (ediv (pos a) (pos (2 ^ (distance % 8)))) ⌝ }
+{
+    a >> (distance % 8)
+}
