@@ -197,6 +197,15 @@ fn value_at(s: &[u8], at: usize, n: usize) -> u32
 fn front(s: &[u8]) -> Read
     ensures { λ r. ⌜ ReadIs (λ c. Begins c (now (s .entry))) (r .ok) (r .value) (r .length) ⌝ }
 {
+    if 0 < s.len() {
+        if s[0] < 0x80 {
+            return Read {
+                ok: true,
+                value: s[0] as u32,
+                length: 1,
+            };
+        }
+    }
     let n = first_at(s, 0);
     if n == 0 {
         return Read {
