@@ -61,12 +61,12 @@ pub fn wrapping_mul(a: isize, b: isize) -> isize
 
 // ---- checked sums and differences
 
-// What a sum or a difference wraps to tells whether it fits.
+// The sign of what a sum or a difference wraps to tells whether it fits.
 pub fn checked_add(a: isize, b: isize) -> Checked
     ensures { λ r. ⌜ Answers (r .ok) (r .value) (refuse (signed 64) (a +ℤ b)) ⌝ }
 {
     let sum = wrapping_add(a, b);
-    if (b < 0) != (sum < a) {
+    if ((a < 0) != (sum < 0)) & ((b < 0) != (sum < 0)) {
         Checked {
             ok: false,
             value: 0,
@@ -100,7 +100,7 @@ pub fn checked_sub(a: isize, b: isize) -> Checked
     ensures { λ r. ⌜ Answers (r .ok) (r .value) (refuse (signed 64) (a -ℤ b)) ⌝ }
 {
     let difference = wrapping_sub(a, b);
-    if (b < 0) != (a < difference) {
+    if ((a < 0) != (b < 0)) & ((a < 0) != (difference < 0)) {
         Checked {
             ok: false,
             value: 0,
