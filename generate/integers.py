@@ -1,14 +1,17 @@
-"""Family A: the crates unsigned8 .. signed_size and unsigned8_division .. signed_size_division, and the face's modules promises_u8 .. promises_isize."""
+"""Family A: the crates unsigned8 .. signed_size, those of their divisions and of signs, and the face's modules promises_u8 .. promises_isize."""
 import os
-from itertools import product
 
 from templates import CRATES, SIGNS, TEMPLATES, WIDTHS, filled, read, templates, type_name, words
+
+
+# The crates of a width: sums, differences and products; divisions and shifts; sign, magnitude and order.
+PARTS = [("unsigned", ""), ("unsigned", "_division"), ("signed", ""), ("signed", "_division"), ("signed", "_sign")]
 
 
 def width_crates():
     for suffix, type_suffix, bits in WIDTHS:
         table = words(suffix, type_suffix, bits)
-        for sign, part in product(SIGNS, ["", "_division"]):
+        for sign, part in PARTS:
             folder = os.path.join(TEMPLATES, sign + part)
             code = templates(folder, bits)
             lib = code.pop("lib")

@@ -26,7 +26,7 @@ pub fn read_i8(s: &[u8], from: usize, to: usize) -> signed8::Checked
                 value: 0,
             };
         }
-        return signed8::with_sign(true, magnitude.value);
+        return signed8_sign::with_sign(true, magnitude.value);
     }
     let magnitude = decimal_read::read_u8(s, from, to);
     if !magnitude.ok {
@@ -35,7 +35,7 @@ pub fn read_i8(s: &[u8], from: usize, to: usize) -> signed8::Checked
             value: 0,
         };
     }
-    signed8::with_sign(false, magnitude.value)
+    signed8_sign::with_sign(false, magnitude.value)
 }
 
 pub fn read_i16(s: &[u8], from: usize, to: usize) -> signed16::Checked
@@ -61,7 +61,7 @@ pub fn read_i16(s: &[u8], from: usize, to: usize) -> signed16::Checked
                 value: 0,
             };
         }
-        return signed16::with_sign(true, magnitude.value);
+        return signed16_sign::with_sign(true, magnitude.value);
     }
     let magnitude = decimal_read::read_u16(s, from, to);
     if !magnitude.ok {
@@ -70,7 +70,7 @@ pub fn read_i16(s: &[u8], from: usize, to: usize) -> signed16::Checked
             value: 0,
         };
     }
-    signed16::with_sign(false, magnitude.value)
+    signed16_sign::with_sign(false, magnitude.value)
 }
 
 pub fn read_i32(s: &[u8], from: usize, to: usize) -> signed32::Checked
@@ -96,7 +96,7 @@ pub fn read_i32(s: &[u8], from: usize, to: usize) -> signed32::Checked
                 value: 0,
             };
         }
-        return signed32::with_sign(true, magnitude.value);
+        return signed32_sign::with_sign(true, magnitude.value);
     }
     let magnitude = decimal_read::read_u32(s, from, to);
     if !magnitude.ok {
@@ -105,7 +105,7 @@ pub fn read_i32(s: &[u8], from: usize, to: usize) -> signed32::Checked
             value: 0,
         };
     }
-    signed32::with_sign(false, magnitude.value)
+    signed32_sign::with_sign(false, magnitude.value)
 }
 
 pub fn read_i64(s: &[u8], from: usize, to: usize) -> signed64::Checked
@@ -131,7 +131,7 @@ pub fn read_i64(s: &[u8], from: usize, to: usize) -> signed64::Checked
                 value: 0,
             };
         }
-        return signed64::with_sign(true, magnitude.value);
+        return signed64_sign::with_sign(true, magnitude.value);
     }
     let magnitude = decimal_read::read_u64(s, from, to);
     if !magnitude.ok {
@@ -140,7 +140,7 @@ pub fn read_i64(s: &[u8], from: usize, to: usize) -> signed64::Checked
             value: 0,
         };
     }
-    signed64::with_sign(false, magnitude.value)
+    signed64_sign::with_sign(false, magnitude.value)
 }
 
 pub fn read_isize(s: &[u8], from: usize, to: usize) -> signed_size::Checked
@@ -166,7 +166,7 @@ pub fn read_isize(s: &[u8], from: usize, to: usize) -> signed_size::Checked
                 value: 0,
             };
         }
-        return signed_size::with_sign(true, magnitude.value);
+        return signed_size_sign::with_sign(true, magnitude.value);
     }
     let magnitude = decimal_read::read_usize(s, from, to);
     if !magnitude.ok {
@@ -175,5 +175,5 @@ pub fn read_isize(s: &[u8], from: usize, to: usize) -> signed_size::Checked
             value: 0,
         };
     }
-    signed_size::with_sign(false, magnitude.value)
+    signed_size_sign::with_sign(false, magnitude.value)
 }

@@ -28,21 +28,22 @@ fn is_form(s: &[u8], c: u32) -> bool {
     let count = text_valid::count(s);
     let len = text_scalar::scalar_len(c);
     let mut out = [0xffu8; 8];
-    let put = text_scalar::write(&mut out, 0, c);
+    let put = text_write::write(&mut out, 0, c);
     text_valid::valid(s)
-        && first.ok
-        && first.value == c
-        && first.length == s.len()
-        && last.ok
-        && last.value == c
-        && last.length == s.len()
-        && count.ok
-        && count.value == 1
-        && len.ok
-        && len.value == s.len()
-        && put.ok
-        && put.value == s.len()
-        && begins(&out, s)
+        & is_read(first, c, s.len())
+        & is_read(last, c, s.len())
+        & (count.ok & (count.value == 1))
+        & is_length(len, s.len())
+        & is_length(put, s.len())
+        & begins(&out, s)
+}
+
+fn is_read(read: text_read::Read, c: u32, n: usize) -> bool {
+    read.ok & (read.value == c) & (read.length == n)
+}
+
+fn is_length(length: text_scalar::Length, n: usize) -> bool {
+    length.ok & (length.value == n)
 }
 
 fn begins(out: &[u8; 8], s: &[u8]) -> bool {
@@ -73,45 +74,67 @@ fn refused(s: &[u8]) -> u64
     let border = text_valid::is_boundary(s, 0);
     let split = text_valid::split_at(s, 0);
     one_if(
-        !text_valid::valid(s)
-            && text_valid::valid_up_to(s) == 0
-            && !first.ok
-            && !count.ok
-            && !border.ok
-            && !split.ok,
+        !(text_valid::valid(s) | first.ok | count.ok | border.ok | split.ok)
+            & (text_valid::valid_up_to(s) == 0),
     )
 }
 
-fn worked() {
-    let read = known(b"\x7f", 0x7f)
-        + known(b"\xc2\x80", 0x80)
-        + known(b"\xdf\xbf", 0x7ff)
-        + known(b"\xe0\xa0\x80", 0x800)
+fn one_or_two_bytes() -> u64
+    ensures { λ r. ⌜ r ≤ 3 ⌝ }
+{
+    known(b"\x7f", 0x7f) + known(b"\xc2\x80", 0x80) + known(b"\xdf\xbf", 0x7ff)
+}
+
+fn three_bytes() -> u64
+    ensures { λ r. ⌜ r ≤ 4 ⌝ }
+{
+    known(b"\xe0\xa0\x80", 0x800)
         + known(b"\xed\x9f\xbf", 0xd7ff)
         + known(b"\xee\x80\x80", 0xe000)
         + known(b"\xef\xbf\xbf", 0xffff)
-        + known(b"\xf0\x90\x80\x80", 0x10000)
-        + known(b"\xf4\x8f\xbf\xbf", 0x10ffff);
-    line(b"worked values read, of 9", read);
-    let longer = refused(b"\xc0\x80")
+}
+
+fn four_bytes() -> u64
+    ensures { λ r. ⌜ r ≤ 2 ⌝ }
+{
+    known(b"\xf0\x90\x80\x80", 0x10000) + known(b"\xf4\x8f\xbf\xbf", 0x10ffff)
+}
+
+fn longer() -> u64 {
+    refused(b"\xc0\x80")
         + refused(b"\xc1\xbf")
         + refused(b"\xe0\x9f\xbf")
-        + refused(b"\xf0\x8f\xbf\xbf");
-    line(b"refused as longer than needed, of 4", longer);
-    line(
-        b"refused as surrogates, of 2",
-        refused(b"\xed\xa0\x80") + refused(b"\xed\xbf\xbf"),
-    );
-    line(
-        b"refused as too large, of 2",
-        refused(b"\xf4\x90\x80\x80") + refused(b"\xf5\x80\x80\x80"),
-    );
-    let cut = refused(b"\x80")
+        + refused(b"\xf0\x8f\xbf\xbf")
+}
+
+fn surrogates() -> u64 {
+    refused(b"\xed\xa0\x80") + refused(b"\xed\xbf\xbf")
+}
+
+fn too_large() -> u64 {
+    refused(b"\xf4\x90\x80\x80") + refused(b"\xf5\x80\x80\x80")
+}
+
+fn misplaced_or_cut() -> u64 {
+    refused(b"\x80")
         + refused(b"\xff")
         + refused(b"\xc2")
         + refused(b"\xe2\x82")
-        + refused(b"\xf0\x9f\x98");
-    line(b"refused as out of place or cut off, of 5", cut);
+        + refused(b"\xf0\x9f\x98")
+}
+
+fn worked() {
+    line(
+        b"worked values read, of 9",
+        one_or_two_bytes() + three_bytes() + four_bytes(),
+    );
+    line(b"refused as longer than needed, of 4", longer());
+    line(b"refused as surrogates, of 2", surrogates());
+    line(b"refused as too large, of 2", too_large());
+    line(
+        b"refused as out of place or cut off, of 5",
+        misplaced_or_cut(),
+    );
 }
 
 // ---- every string of up to three bytes, and every string of four edge bytes
@@ -186,7 +209,7 @@ fn strings(bytes: u8, total: u64) -> u64 {
 // c is written inside a slice and read back from both ends; or refused, and nothing is written.
 fn round(c: u32) -> bool {
     let mut out = [0xffu8; 8];
-    let put = text_scalar::write(&mut out, 2, c);
+    let put = text_write::write(&mut out, 2, c);
     let n = put.value;
     if 4 < n {
         return false;
@@ -195,19 +218,14 @@ fn round(c: u32) -> bool {
     let first = text_read::read_first(&out, 2, end);
     let last = text_read::read_last(&out, 2, end);
     let count = text_valid::count(&out[2..end]);
+    let untouched = (out[1] == 0xff) & (out[end] == 0xff);
     if put.ok {
-        return first.ok
-            && first.value == c
-            && first.length == n
-            && last.ok
-            && last.value == c
-            && last.length == n
-            && count.ok
-            && count.value == 1
-            && out[1] == 0xff
-            && out[end] == 0xff;
+        return is_read(first, c, n)
+            & is_read(last, c, n)
+            & (count.ok & (count.value == 1))
+            & untouched;
     }
-    !text_scalar::is_scalar(c) && n == 0 && out[2] == 0xff && !first.ok && !last.ok
+    !(text_scalar::is_scalar(c) | first.ok | last.ok) & (n == 0) & untouched
 }
 
 // A text of up to three scalars, the first and the last of one byte: a place is a boundary, and splits it, where it is before, between or behind them.
@@ -231,7 +249,7 @@ fn is_split_around(s: &[u8]) -> bool {
 // What is no scalar leaves two letters with nothing between them.
 fn around_one(c: u32) -> bool {
     let mut out = [0x61u8; 6];
-    let put = text_scalar::write(&mut out, 1, c);
+    let put = text_write::write(&mut out, 1, c);
     if 4 < put.value {
         return false;
     }
@@ -300,7 +318,7 @@ fn found(s: &mut [u8], at: usize, wrong: u8, three: bool) -> u64
     let all = text_valid::valid(s);
     let ascii = text_ascii::is_ascii(s);
     s[at] = right;
-    one_if(up_to == start_of(at, three) && !all && !ascii)
+    one_if((up_to == start_of(at, three)) & !(all | ascii))
 }
 
 fn wrongs(s: &mut [u8], wrong: u8, three: bool) -> u64 {
@@ -321,7 +339,7 @@ fn cut(s: &[u8], n: usize, three: bool) -> u64
     }
     let valid = text_valid::valid(&s[0..n]);
     let ascii = text_ascii::is_ascii(&s[0..n]);
-    one_if(valid == (start_of(n, three) == n) && ascii == (n == 0 || !three))
+    one_if((valid == (start_of(n, three) == n)) & (ascii == ((n == 0) | !three)))
 }
 
 // The first bytes of a text of equal forms are text where no form is cut, and ASCII where the forms are.
@@ -335,7 +353,7 @@ fn lengths(s: &[u8], three: bool) -> u64 {
     count
 }
 
-fn around() {
+fn among_ascii() {
     let mut s = [0x61u8; 200];
     line(
         b"places of 80 among ASCII, of 200",
@@ -350,6 +368,10 @@ fn around() {
         wrongs(&mut s, 0xff, false),
     );
     line(b"lengths of ASCII, of 200", lengths(&s, false));
+}
+
+fn among_forms_of_three() {
+    let mut s = [0u8; 200];
     fill(&mut s, 0xe2, 0x82, 0xac);
     line(
         b"places of c0 among forms of three bytes, of 200",
@@ -365,13 +387,15 @@ fn around() {
     );
 }
 
-fn main() {
-    worked();
+fn every_string() {
     line(b"strings of no byte, of 1", agree(b""));
     line(b"strings of one byte, of 256", strings(1, 256));
     line(b"strings of two bytes, of 65536", strings(2, 65536));
     line(b"strings of three bytes, of 16777216", strings(3, 16777216));
     line(b"strings of four edge bytes, of 331776", strings(4, 331776));
+}
+
+fn every_number() {
     line(
         b"scalar values below the surrogates, of 55296",
         rounds(0, 0xd800),
@@ -386,5 +410,12 @@ fn main() {
         rounds(0x110000, 0x111000),
     );
     line(b"white space among all of them, of 25", white_spaces());
-    around();
+}
+
+fn main() {
+    worked();
+    every_string();
+    every_number();
+    among_ascii();
+    among_forms_of_three();
 }

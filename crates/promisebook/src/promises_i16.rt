@@ -123,49 +123,49 @@ pub extern "C" fn pb_i16_clone(x: i16) -> i16
 pub extern "C" fn pb_i16_eq(x: i16, y: i16) -> bool
     ensures { λ r. ⌜ r ≡ eq x y ⌝ }
 {
-    ordering::is_eq(signed16::compare(x, y))
+    ordering::is_eq(signed16_sign::compare(x, y))
 }
 
 #[no_mangle]
 pub extern "C" fn pb_i16_ne(x: i16, y: i16) -> bool
     ensures { λ r. ⌜ r ≡ ne x y ⌝ }
 {
-    ordering::is_ne(signed16::compare(x, y))
+    ordering::is_ne(signed16_sign::compare(x, y))
 }
 
 #[no_mangle]
 pub extern "C" fn pb_i16_lt(x: i16, y: i16) -> bool
     ensures { λ r. ⌜ r ≡ lt x y ⌝ }
 {
-    ordering::is_lt(signed16::compare(x, y))
+    ordering::is_lt(signed16_sign::compare(x, y))
 }
 
 #[no_mangle]
 pub extern "C" fn pb_i16_le(x: i16, y: i16) -> bool
     ensures { λ r. ⌜ r ≡ le x y ⌝ }
 {
-    ordering::is_le(signed16::compare(x, y))
+    ordering::is_le(signed16_sign::compare(x, y))
 }
 
 #[no_mangle]
 pub extern "C" fn pb_i16_gt(x: i16, y: i16) -> bool
     ensures { λ r. ⌜ r ≡ gt x y ⌝ }
 {
-    ordering::is_gt(signed16::compare(x, y))
+    ordering::is_gt(signed16_sign::compare(x, y))
 }
 
 #[no_mangle]
 pub extern "C" fn pb_i16_ge(x: i16, y: i16) -> bool
     ensures { λ r. ⌜ r ≡ ge x y ⌝ }
 {
-    ordering::is_ge(signed16::compare(x, y))
+    ordering::is_ge(signed16_sign::compare(x, y))
 }
 
 #[no_mangle]
 pub extern "C" fn pb_i16_cmp(x: i16, y: i16) -> i8
     ensures { λ r. ⌜ r ≡ numbered (cmp x y) ⌝ }
 {
-    ordering::number(signed16::compare(x, y))
+    ordering::number(signed16_sign::compare(x, y))
 }
 
 #[no_mangle]
@@ -174,6 +174,6 @@ pub extern "C" fn pb_i16_partial_cmp(x: i16, y: i16) -> PartialOrdering
 {
     PartialOrdering {
         ok: true,
-        value: ordering::number(signed16::compare(x, y)),
+        value: ordering::number(signed16_sign::compare(x, y)),
     }
 }

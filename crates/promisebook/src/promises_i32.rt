@@ -123,49 +123,49 @@ pub extern "C" fn pb_i32_clone(x: i32) -> i32
 pub extern "C" fn pb_i32_eq(x: i32, y: i32) -> bool
     ensures { λ r. ⌜ r ≡ eq x y ⌝ }
 {
-    ordering::is_eq(signed32::compare(x, y))
+    ordering::is_eq(signed32_sign::compare(x, y))
 }
 
 #[no_mangle]
 pub extern "C" fn pb_i32_ne(x: i32, y: i32) -> bool
     ensures { λ r. ⌜ r ≡ ne x y ⌝ }
 {
-    ordering::is_ne(signed32::compare(x, y))
+    ordering::is_ne(signed32_sign::compare(x, y))
 }
 
 #[no_mangle]
 pub extern "C" fn pb_i32_lt(x: i32, y: i32) -> bool
     ensures { λ r. ⌜ r ≡ lt x y ⌝ }
 {
-    ordering::is_lt(signed32::compare(x, y))
+    ordering::is_lt(signed32_sign::compare(x, y))
 }
 
 #[no_mangle]
 pub extern "C" fn pb_i32_le(x: i32, y: i32) -> bool
     ensures { λ r. ⌜ r ≡ le x y ⌝ }
 {
-    ordering::is_le(signed32::compare(x, y))
+    ordering::is_le(signed32_sign::compare(x, y))
 }
 
 #[no_mangle]
 pub extern "C" fn pb_i32_gt(x: i32, y: i32) -> bool
     ensures { λ r. ⌜ r ≡ gt x y ⌝ }
 {
-    ordering::is_gt(signed32::compare(x, y))
+    ordering::is_gt(signed32_sign::compare(x, y))
 }
 
 #[no_mangle]
 pub extern "C" fn pb_i32_ge(x: i32, y: i32) -> bool
     ensures { λ r. ⌜ r ≡ ge x y ⌝ }
 {
-    ordering::is_ge(signed32::compare(x, y))
+    ordering::is_ge(signed32_sign::compare(x, y))
 }
 
 #[no_mangle]
 pub extern "C" fn pb_i32_cmp(x: i32, y: i32) -> i8
     ensures { λ r. ⌜ r ≡ numbered (cmp x y) ⌝ }
 {
-    ordering::number(signed32::compare(x, y))
+    ordering::number(signed32_sign::compare(x, y))
 }
 
 #[no_mangle]
@@ -174,6 +174,6 @@ pub extern "C" fn pb_i32_partial_cmp(x: i32, y: i32) -> PartialOrdering
 {
     PartialOrdering {
         ok: true,
-        value: ordering::number(signed32::compare(x, y)),
+        value: ordering::number(signed32_sign::compare(x, y)),
     }
 }

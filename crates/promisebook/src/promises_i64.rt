@@ -123,49 +123,49 @@ pub extern "C" fn pb_i64_clone(x: i64) -> i64
 pub extern "C" fn pb_i64_eq(x: i64, y: i64) -> bool
     ensures { λ r. ⌜ r ≡ eq x y ⌝ }
 {
-    ordering::is_eq(signed64::compare(x, y))
+    ordering::is_eq(signed64_sign::compare(x, y))
 }
 
 #[no_mangle]
 pub extern "C" fn pb_i64_ne(x: i64, y: i64) -> bool
     ensures { λ r. ⌜ r ≡ ne x y ⌝ }
 {
-    ordering::is_ne(signed64::compare(x, y))
+    ordering::is_ne(signed64_sign::compare(x, y))
 }
 
 #[no_mangle]
 pub extern "C" fn pb_i64_lt(x: i64, y: i64) -> bool
     ensures { λ r. ⌜ r ≡ lt x y ⌝ }
 {
-    ordering::is_lt(signed64::compare(x, y))
+    ordering::is_lt(signed64_sign::compare(x, y))
 }
 
 #[no_mangle]
 pub extern "C" fn pb_i64_le(x: i64, y: i64) -> bool
     ensures { λ r. ⌜ r ≡ le x y ⌝ }
 {
-    ordering::is_le(signed64::compare(x, y))
+    ordering::is_le(signed64_sign::compare(x, y))
 }
 
 #[no_mangle]
 pub extern "C" fn pb_i64_gt(x: i64, y: i64) -> bool
     ensures { λ r. ⌜ r ≡ gt x y ⌝ }
 {
-    ordering::is_gt(signed64::compare(x, y))
+    ordering::is_gt(signed64_sign::compare(x, y))
 }
 
 #[no_mangle]
 pub extern "C" fn pb_i64_ge(x: i64, y: i64) -> bool
     ensures { λ r. ⌜ r ≡ ge x y ⌝ }
 {
-    ordering::is_ge(signed64::compare(x, y))
+    ordering::is_ge(signed64_sign::compare(x, y))
 }
 
 #[no_mangle]
 pub extern "C" fn pb_i64_cmp(x: i64, y: i64) -> i8
     ensures { λ r. ⌜ r ≡ numbered (cmp x y) ⌝ }
 {
-    ordering::number(signed64::compare(x, y))
+    ordering::number(signed64_sign::compare(x, y))
 }
 
 #[no_mangle]
@@ -174,6 +174,6 @@ pub extern "C" fn pb_i64_partial_cmp(x: i64, y: i64) -> PartialOrdering
 {
     PartialOrdering {
         ok: true,
-        value: ordering::number(signed64::compare(x, y)),
+        value: ordering::number(signed64_sign::compare(x, y)),
     }
 }

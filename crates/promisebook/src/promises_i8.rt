@@ -123,49 +123,49 @@ pub extern "C" fn pb_i8_clone(x: i8) -> i8
 pub extern "C" fn pb_i8_eq(x: i8, y: i8) -> bool
     ensures { λ r. ⌜ r ≡ eq x y ⌝ }
 {
-    ordering::is_eq(signed8::compare(x, y))
+    ordering::is_eq(signed8_sign::compare(x, y))
 }
 
 #[no_mangle]
 pub extern "C" fn pb_i8_ne(x: i8, y: i8) -> bool
     ensures { λ r. ⌜ r ≡ ne x y ⌝ }
 {
-    ordering::is_ne(signed8::compare(x, y))
+    ordering::is_ne(signed8_sign::compare(x, y))
 }
 
 #[no_mangle]
 pub extern "C" fn pb_i8_lt(x: i8, y: i8) -> bool
     ensures { λ r. ⌜ r ≡ lt x y ⌝ }
 {
-    ordering::is_lt(signed8::compare(x, y))
+    ordering::is_lt(signed8_sign::compare(x, y))
 }
 
 #[no_mangle]
 pub extern "C" fn pb_i8_le(x: i8, y: i8) -> bool
     ensures { λ r. ⌜ r ≡ le x y ⌝ }
 {
-    ordering::is_le(signed8::compare(x, y))
+    ordering::is_le(signed8_sign::compare(x, y))
 }
 
 #[no_mangle]
 pub extern "C" fn pb_i8_gt(x: i8, y: i8) -> bool
     ensures { λ r. ⌜ r ≡ gt x y ⌝ }
 {
-    ordering::is_gt(signed8::compare(x, y))
+    ordering::is_gt(signed8_sign::compare(x, y))
 }
 
 #[no_mangle]
 pub extern "C" fn pb_i8_ge(x: i8, y: i8) -> bool
     ensures { λ r. ⌜ r ≡ ge x y ⌝ }
 {
-    ordering::is_ge(signed8::compare(x, y))
+    ordering::is_ge(signed8_sign::compare(x, y))
 }
 
 #[no_mangle]
 pub extern "C" fn pb_i8_cmp(x: i8, y: i8) -> i8
     ensures { λ r. ⌜ r ≡ numbered (cmp x y) ⌝ }
 {
-    ordering::number(signed8::compare(x, y))
+    ordering::number(signed8_sign::compare(x, y))
 }
 
 #[no_mangle]
@@ -174,6 +174,6 @@ pub extern "C" fn pb_i8_partial_cmp(x: i8, y: i8) -> PartialOrdering
 {
     PartialOrdering {
         ok: true,
-        value: ordering::number(signed8::compare(x, y)),
+        value: ordering::number(signed8_sign::compare(x, y)),
     }
 }

@@ -123,49 +123,49 @@ pub extern "C" fn pb_isize_clone(x: isize) -> isize
 pub extern "C" fn pb_isize_eq(x: isize, y: isize) -> bool
     ensures { λ r. ⌜ r ≡ eq x y ⌝ }
 {
-    ordering::is_eq(signed_size::compare(x, y))
+    ordering::is_eq(signed_size_sign::compare(x, y))
 }
 
 #[no_mangle]
 pub extern "C" fn pb_isize_ne(x: isize, y: isize) -> bool
     ensures { λ r. ⌜ r ≡ ne x y ⌝ }
 {
-    ordering::is_ne(signed_size::compare(x, y))
+    ordering::is_ne(signed_size_sign::compare(x, y))
 }
 
 #[no_mangle]
 pub extern "C" fn pb_isize_lt(x: isize, y: isize) -> bool
     ensures { λ r. ⌜ r ≡ lt x y ⌝ }
 {
-    ordering::is_lt(signed_size::compare(x, y))
+    ordering::is_lt(signed_size_sign::compare(x, y))
 }
 
 #[no_mangle]
 pub extern "C" fn pb_isize_le(x: isize, y: isize) -> bool
     ensures { λ r. ⌜ r ≡ le x y ⌝ }
 {
-    ordering::is_le(signed_size::compare(x, y))
+    ordering::is_le(signed_size_sign::compare(x, y))
 }
 
 #[no_mangle]
 pub extern "C" fn pb_isize_gt(x: isize, y: isize) -> bool
     ensures { λ r. ⌜ r ≡ gt x y ⌝ }
 {
-    ordering::is_gt(signed_size::compare(x, y))
+    ordering::is_gt(signed_size_sign::compare(x, y))
 }
 
 #[no_mangle]
 pub extern "C" fn pb_isize_ge(x: isize, y: isize) -> bool
     ensures { λ r. ⌜ r ≡ ge x y ⌝ }
 {
-    ordering::is_ge(signed_size::compare(x, y))
+    ordering::is_ge(signed_size_sign::compare(x, y))
 }
 
 #[no_mangle]
 pub extern "C" fn pb_isize_cmp(x: isize, y: isize) -> i8
     ensures { λ r. ⌜ r ≡ numbered (cmp x y) ⌝ }
 {
-    ordering::number(signed_size::compare(x, y))
+    ordering::number(signed_size_sign::compare(x, y))
 }
 
 #[no_mangle]
@@ -174,6 +174,6 @@ pub extern "C" fn pb_isize_partial_cmp(x: isize, y: isize) -> PartialOrdering
 {
     PartialOrdering {
         ok: true,
-        value: ordering::number(signed_size::compare(x, y)),
+        value: ordering::number(signed_size_sign::compare(x, y)),
     }
 }

@@ -30,7 +30,7 @@ pub extern "C" fn pb_text_is_white_space(c: u32) -> bool
 pub extern "C" fn pb_text_write(out: &mut [u8], at: usize, c: u32) -> text_scalar::Length
     ensures { λ r. ⌜ (is-scalar c ≡ true → at + length (encode-scalar c) ≤ length (now (out .entry)) → (r .ok ≡ true) × (r .value ≡ length (encode-scalar c)) × (now (out .exit) ≡ written (now (out .entry)) at (encode-scalar c))) ⌝ }
 {
-    text_scalar::write(out, at, c)
+    text_write::write(out, at, c)
 }
 
 // ---- the ends of a part

@@ -1,13 +1,11 @@
 // Signed integers of 8 bits: sums, differences and products, then wrap or refuse (theory_whole). No function asks anything of its caller.
 ghost use mathlib.Core.Path.{_≡_};
-ghost use mathlib.Core.Bool.{not, cond, _&&_};
-ghost use lib.IntN.{ℤ, pos, negℤ, natAbs, _+ℤ_, _-ℤ_, _*ℤ_};
+ghost use mathlib.Core.Bool.{not, _&&_};
+ghost use lib.IntN.{ℤ, pos, _+ℤ_, _-ℤ_, _*ℤ_};
 ghost use lib.Signed.{quotZ};
 ghost use Rattle.theory_whole.specs.Kind.{signed};
 ghost use Rattle.theory_whole.specs.Division.{isZero};
 ghost use Rattle.theory_whole.specs.Fit.{fits, wrap, refuse, Answers};
-ghost use Rattle.theory_whole.specs.Order.{order};
-use theory_whole::Ordering;
 
 // The answer of an operation that may refuse: a refusal has the value 0.
 #[repr(C)]
@@ -126,42 +124,6 @@ pub fn checked_sub_unsigned(a: i8, b: u8) -> Checked
     }
 }
 
-// ---- sign and magnitude
-
-pub fn magnitude(a: i8) -> u8
-    ensures { λ r. ⌜ r ≡ natAbs a ⌝ }
-{
-    if a < 0 { ((!a) as u8) + 1 } else { a as u8 }
-}
-
-pub fn with_sign(negative: bool, magnitude: u8) -> Checked
-    ensures { λ r. ⌜ Answers (r .ok) (r .value) (refuse (signed 8) (cond negative (negℤ (pos magnitude)) (pos magnitude))) ⌝ }
-{
-    if negative {
-        if 128 < magnitude {
-            Checked {
-                ok: false,
-                value: 0,
-            }
-        } else {
-            Checked {
-                ok: true,
-                value: wrapped(unsigned8::wrapping_sub(0, magnitude)),
-            }
-        }
-    } else if magnitude < 128 {
-        Checked {
-            ok: true,
-            value: magnitude as i8,
-        }
-    } else {
-        Checked {
-            ok: false,
-            value: 0,
-        }
-    }
-}
-
 // ---- checked products: told by dividing again, which becomes the overflow flag
 
 pub fn checked_mul(a: i8, b: i8) -> Checked
@@ -199,19 +161,5 @@ pub fn divides(a: i8, b: i8) -> bool
         a != i8::MIN
     } else {
         true
-    }
-}
-
-// ---- order
-
-pub fn compare(a: i8, b: i8) -> Ordering
-    ensures { λ r. ⌜ r ≡ order a b ⌝ }
-{
-    if a < b {
-        Ordering::Less
-    } else if b < a {
-        Ordering::Greater
-    } else {
-        Ordering::Equal
     }
 }

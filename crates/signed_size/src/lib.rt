@@ -1,13 +1,11 @@
 // Signed integers of 64 bits: sums, differences and products, then wrap or refuse (theory_whole). No function asks anything of its caller.
 ghost use mathlib.Core.Path.{_≡_};
-ghost use mathlib.Core.Bool.{not, cond, _&&_};
-ghost use lib.IntN.{ℤ, pos, negℤ, natAbs, _+ℤ_, _-ℤ_, _*ℤ_};
+ghost use mathlib.Core.Bool.{not, _&&_};
+ghost use lib.IntN.{ℤ, pos, _+ℤ_, _-ℤ_, _*ℤ_};
 ghost use lib.Signed.{quotZ};
 ghost use Rattle.theory_whole.specs.Kind.{signed};
 ghost use Rattle.theory_whole.specs.Division.{isZero};
 ghost use Rattle.theory_whole.specs.Fit.{fits, wrap, refuse, Answers};
-ghost use Rattle.theory_whole.specs.Order.{order};
-use theory_whole::Ordering;
 
 // The answer of an operation that may refuse: a refusal has the value 0.
 #[repr(C)]
@@ -130,46 +128,6 @@ pub fn checked_sub_unsigned(a: isize, b: usize) -> Checked
     }
 }
 
-// ---- sign and magnitude
-
-pub fn magnitude(a: isize) -> usize
-    ensures { λ r. ⌜ r ≡ natAbs a ⌝ }
-{
-    if a < 0 {
-        ((!a) as usize) + 1
-    } else {
-        a as usize
-    }
-}
-
-pub fn with_sign(negative: bool, magnitude: usize) -> Checked
-    ensures { λ r. ⌜ Answers (r .ok) (r .value) (refuse (signed 64) (cond negative (negℤ (pos magnitude)) (pos magnitude))) ⌝ }
-{
-    if negative {
-        if 9223372036854775808 < magnitude {
-            Checked {
-                ok: false,
-                value: 0,
-            }
-        } else {
-            Checked {
-                ok: true,
-                value: wrapped(unsigned_size::wrapping_sub(0, magnitude)),
-            }
-        }
-    } else if magnitude < 9223372036854775808 {
-        Checked {
-            ok: true,
-            value: magnitude as isize,
-        }
-    } else {
-        Checked {
-            ok: false,
-            value: 0,
-        }
-    }
-}
-
 // ---- checked products: told by dividing again, which becomes the overflow flag
 
 pub fn checked_mul(a: isize, b: isize) -> Checked
@@ -207,19 +165,5 @@ pub fn divides(a: isize, b: isize) -> bool
         a != isize::MIN
     } else {
         true
-    }
-}
-
-// ---- order
-
-pub fn compare(a: isize, b: isize) -> Ordering
-    ensures { λ r. ⌜ r ≡ order a b ⌝ }
-{
-    if a < b {
-        Ordering::Less
-    } else if b < a {
-        Ordering::Greater
-    } else {
-        Ordering::Equal
     }
 }

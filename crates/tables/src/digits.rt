@@ -43,7 +43,9 @@ fn read(answer: Checked) {
     }
 }
 
-pub fn lines() {
+const X: u64 = 0x0102030405060708;
+
+fn lines_of_zeros() {
     show::text(
         b"B. zeros and ones, 8 bits: trailing zeros, leading zeros, trailing ones, leading ones\n",
     );
@@ -53,21 +55,34 @@ pub fn lines() {
     zeros_and_ones(0xff);
     zeros_and_ones(0x50);
     zeros_and_ones(0xf7);
+}
+
+fn lines_of_bytes() {
     show::text(b"C. the bytes of 0x0102030405060708\n");
-    let x: u64 = 0x0102030405060708;
-    let low = number_bytes64::to_le_bytes(x);
-    let high = number_bytes64::to_be_bytes(x);
     show::text(b"lowest first:");
-    bytes(&low);
+    bytes(&number_bytes64::to_le_bytes(X));
     show::text(b"highest first:");
-    bytes(&high);
+    bytes(&number_bytes64::to_be_bytes(X));
+}
+
+fn lines_of_numbers() {
     show::text(b"and back\n");
     show::text(b"lowest first:");
-    read(number_bytes64::from_le_bytes(&low));
+    read(number_bytes64::from_le_bytes(&number_bytes64::to_le_bytes(X)));
     show::text(b"highest first:");
-    read(number_bytes64::from_be_bytes(&high));
+    read(number_bytes64::from_be_bytes(&number_bytes64::to_be_bytes(X)));
+}
+
+fn lines_of_wrong_lengths() {
     show::text(b"seven bytes, lowest first:");
     read(number_bytes64::from_le_bytes(b"\x08\x07\x06\x05\x04\x03\x02"));
     show::text(b"nine bytes, highest first:");
     read(number_bytes64::from_be_bytes(b"\x01\x02\x03\x04\x05\x06\x07\x08\x09"));
+}
+
+pub fn lines() {
+    lines_of_zeros();
+    lines_of_bytes();
+    lines_of_numbers();
+    lines_of_wrong_lengths();
 }
