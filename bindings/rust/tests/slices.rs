@@ -1,7 +1,7 @@
-//! Slices of bytes beside the standard library's, at lengths around the blocks of 32 and 64 bytes.
+//! Slices of bytes beside the standard library's, at lengths around the blocks of 8, 16 and 64 bytes.
 use promisebook::bytes::{self, FirstAndRest, Split};
 
-const LENGTHS: [usize; 16] = [0, 1, 2, 7, 31, 32, 33, 63, 64, 65, 95, 96, 127, 128, 129, 200];
+const LENGTHS: [usize; 20] = [0, 1, 2, 7, 8, 9, 15, 16, 17, 24, 31, 33, 63, 64, 65, 96, 127, 128, 129, 200];
 
 /// Bytes of which no two neighbours are equal.
 fn sample(length: usize) -> Vec<u8> {
