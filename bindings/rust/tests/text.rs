@@ -126,3 +126,19 @@ fn behind_blocks() {
         }
     }
 }
+
+/// One byte that is no ASCII, at each place of each length around the blocks of 8, 16 and 64 bytes.
+#[test]
+fn one_other_byte() {
+    for length in 0..=130 {
+        let mut s = vec![b'a'; length];
+        whole(&s);
+        for at in 0..length {
+            for byte in [0x7f, 0x80, 0xff] {
+                s[at] = byte;
+                whole(&s);
+            }
+            s[at] = b'a';
+        }
+    }
+}
