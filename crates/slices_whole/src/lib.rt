@@ -44,6 +44,9 @@ pub fn same(a: &[u8], b: &[u8]) -> bool
     if n != b.len() {
         return false;
     }
+    if 128 <= n {
+        return alike_by(&a[..], &b[..], 128);
+    }
     if 64 <= n {
         return alike_by(&a[..], &b[..], 64);
     }
