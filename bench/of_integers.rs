@@ -12,19 +12,19 @@ fn numbers<T>(make: impl Fn(u64, usize) -> T) -> Vec<T> {
     (0..COUNT).map(|at| make(random.next(), at)).collect()
 }
 
-/// A row: what a loop over numbers makes of a start, step by step.
+/// A row: what a loop over numbers makes of a start, step by step. A step is an expression of what there is so far and the next number.
 macro_rules! fold {
-    ($bench:ident, $operation:literal, $ours:ident, $kind:ty => $result:ty, $xs:expr, $start:literal, $step:expr) => {{
+    ($bench:ident, $operation:literal, $ours:ident, $kind:ty => $result:ty, $xs:expr, $start:literal, |$so_far:ident, $x:ident| $step:expr) => {{
         extern "C" {
             fn $ours(xs: *const $kind, size: usize) -> $result;
         }
         #[inline(never)]
         fn rust(xs: &[$kind]) -> $result {
-            let mut so_far: $result = $start;
-            for &x in xs {
-                so_far = $step(so_far, x);
+            let mut $so_far: $result = $start;
+            for &$x in xs {
+                $so_far = $step;
             }
-            so_far
+            $so_far
         }
         let xs: &[$kind] = $xs;
         let name = concat!(stringify!($kind), " ", $operation);
@@ -32,27 +32,14 @@ macro_rules! fold {
     }};
 }
 
-/// A row: the same, by an operation that may refuse, where the loop ends.
-macro_rules! fold_checked {
-    ($bench:ident, $operation:literal, $ours:ident, $kind:ident, $xs:expr, $start:literal, $checked:ident) => {{
-        extern "C" {
-            fn $ours(xs: *const $kind, size: usize) -> $kind;
+/// The next step of a loop that ends where the operation refuses.
+macro_rules! or_end {
+    ($checked:expr) => {
+        match $checked {
+            Some(next) => next,
+            None => return 0,
         }
-        #[inline(never)]
-        fn rust(xs: &[$kind]) -> $kind {
-            let mut so_far: $kind = $start;
-            for &x in xs {
-                match so_far.$checked(x) {
-                    Some(next) => so_far = next,
-                    None => return 0,
-                }
-            }
-            so_far
-        }
-        let xs: &[$kind] = $xs;
-        let name = concat!(stringify!($kind), " ", $operation);
-        $bench.row(name, xs.len(), || unsafe { $ours(xs.as_ptr(), xs.len()) }, || rust(black_box(xs)));
-    }};
+    };
 }
 
 /// The rows of a kind. No sum or product is refused, so that the loops go to their ends: the summands are small, and the factors 1, the other sign's where there is
@@ -62,10 +49,10 @@ macro_rules! integers {
         let parts = numbers(|x, _| x as $kind / 8192);
         let factors = numbers(|x, at| if at % 256 == 0 { 2 } else if x % 2 == 0 { 1 } else { $other_one });
         let odd = numbers(|x, _| x as $kind | 1);
-        fold_checked!($bench, "checked_add", $checked_add, $kind, &parts, 0, checked_add);
-        fold_checked!($bench, "checked_mul", $checked_mul, $kind, &factors, 1, checked_mul);
-        fold!($bench, "wrapping_add", $wrapping_add, $kind => $kind, &odd, 0, $kind::wrapping_add);
-        fold!($bench, "wrapping_mul", $wrapping_mul, $kind => $kind, &odd, 1, $kind::wrapping_mul);
+        fold!($bench, "checked_add", $checked_add, $kind => $kind, &parts, 0, |sum, x| or_end!(sum.checked_add(x)));
+        fold!($bench, "checked_mul", $checked_mul, $kind => $kind, &factors, 1, |product, x| or_end!(product.checked_mul(x)));
+        fold!($bench, "wrapping_add", $wrapping_add, $kind => $kind, &odd, 0, |sum, x| sum.wrapping_add(x));
+        fold!($bench, "wrapping_mul", $wrapping_mul, $kind => $kind, &odd, 1, |product, x| product.wrapping_mul(x));
     }};
 }
 
@@ -74,8 +61,8 @@ macro_rules! saturating {
     ($bench:ident, $kind:ident, $add:ident, $mul:ident) => {{
         let parts = numbers(|x, _| x as $kind / 1500);
         let factors = numbers(|_, at| if at % 100 == 0 { 2 } else { 1 });
-        fold!($bench, "saturating_add", $add, $kind => $kind, &parts, 0, $kind::saturating_add);
-        fold!($bench, "saturating_mul", $mul, $kind => $kind, &factors, 1, $kind::saturating_mul);
+        fold!($bench, "saturating_add", $add, $kind => $kind, &parts, 0, |sum, x| sum.saturating_add(x));
+        fold!($bench, "saturating_mul", $mul, $kind => $kind, &factors, 1, |product, x| product.saturating_mul(x));
     }};
 }
 
@@ -118,8 +105,8 @@ pub fn rows(bench: &mut Bench) {
     saturating!(bench, u32, loop_u32_saturating_add, loop_u32_saturating_mul);
     saturating!(bench, u64, loop_u64_saturating_add, loop_u64_saturating_mul);
     let lengths = numbers(|x, at| if at % 256 == 0 { 0 } else { x >> (x % 64) << (at % 32) });
-    fold!(bench, "leading_zeros", loop_u64_leading_zeros, u64 => u32, &lengths, 0, |sum: u32, x: u64| sum.wrapping_add(x.leading_zeros()));
-    fold!(bench, "trailing_zeros", loop_u64_trailing_zeros, u64 => u32, &lengths, 0, |sum: u32, x: u64| sum.wrapping_add(x.trailing_zeros()));
+    fold!(bench, "leading_zeros", loop_u64_leading_zeros, u64 => u32, &lengths, 0, |sum, x| sum.wrapping_add(x.leading_zeros()));
+    fold!(bench, "trailing_zeros", loop_u64_trailing_zeros, u64 => u32, &lengths, 0, |sum, x| sum.wrapping_add(x.trailing_zeros()));
     bytes!(bench, from_le_bytes, "u64 from_le_bytes", loop_u64_from_le_bytes, to_le_bytes, "u64 to_le_bytes", loop_u64_to_le_bytes);
     bytes!(bench, from_be_bytes, "u64 from_be_bytes", loop_u64_from_be_bytes, to_be_bytes, "u64 to_be_bytes", loop_u64_to_be_bytes);
 }

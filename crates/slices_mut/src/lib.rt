@@ -3,7 +3,7 @@
 ghost use mathlib.Core.Path.{_≡_};
 ghost use mathlib.Core.List.{_∷_, []};
 ghost use Prim.Native.Nat.{_+_, _-_, _≤_, _<_};
-ghost use lib.ListN.{length, take};
+ghost use lib.ListN.{length, take, replicate};
 ghost use Rattle.theory_lists.specs.Says.{Outcome};
 ghost use Rattle.theory_lists.specs.Part.{Within};
 ghost use Rattle.theory_lists.specs.Written.{written};
@@ -64,9 +64,11 @@ pub fn put(s: &mut [u8], from: usize, to: usize, other: &[u8]) -> bool
     true
 }
 
-// The bytes of s at the front of an array; of more than 64, none.
+// ---- bytes that are held while others are written
+
+// The bytes of s at the front of an array; of more than 64 none, and the array is all zeros.
 pub fn held(s: &[u8]) -> [u8; 64]
-    ensures { λ r. ⌜ (length (now (s .entry)) ≤ 64 → (64 ≡ length r) × (take (length (now (s .entry))) r ≡ now (s .entry))) ⌝ }
+    ensures { λ r. ⌜ (length (now (s .entry)) ≤ 64 → (64 ≡ length r) × (take (length (now (s .entry))) r ≡ now (s .entry))) × (64 < length (now (s .entry)) → r ≡ replicate 64 0) ⌝ }
 {
     let n = s.len();
     let mut bytes = [0u8; 64];

@@ -17,7 +17,8 @@ use Rattle.theory_whole.proofs.Alike.{Alike, alike-itself, alike-add}
 use Rattle.theory_whole.proofs.Fits.{real-unsigned, real-signed}
 use Rattle.theory_whole.proofs.Wrap.{wrap-op, wrap-again, wrapped-alike}
 use Rattle.theory_whole.proofs.Unsigned.{in-unsigned}
-use Rattle.theory_whole.proofs.Overflow.{Less, Told, Near, tested, not-less, sum-tested, told-below, told-above, neither, both-other, sum-told-by-signs, difference-told-by-signs, no-overflow, overflow}
+use Rattle.theory_whole.proofs.Overflow.{Less, Told, Near, tested, not-less, sum-tested, told-below, told-above, no-overflow, overflow}
+use Rattle.theory_whole.proofs.Signs.{negative, neither, both-other, sum-told-by-signs, difference-told-by-signs}
 use Rattle.theory_machine.proofs.Bits.{halves, in-signed, read-back}
 
 -- where the other test is known to fail
@@ -91,12 +92,12 @@ module _ (w : Width) where
       above l = rw (back, toZ-ofZ f) (told-above (real-signed (bits w)) a z r (in-signed w f) near e l (tested a r))
 
     module _ {b : ℤ} (g : SFits w b) where
-      pub sum-told : r ≡ wrap S (toZ w (ofZ w a) +ℤ toZ w (ofZ w b)) → Told S (a +ℤ b) r (neither (ltZ (toZ w (ofZ w a)) (pos 0)) (ltZ (toZ w (ofZ w b)) (pos 0)) (ltZ (toZ w (ofZ w r)) (pos 0)))
+      pub sum-told : r ≡ wrap S (toZ w (ofZ w a) +ℤ toZ w (ofZ w b)) → Told S (a +ℤ b) r (neither (negative (toZ w (ofZ w a))) (negative (toZ w (ofZ w b))) (negative (toZ w (ofZ w r))))
       sum-told e =
           let q : r ≡ wrap S (a +ℤ b) = rw (toZ-ofZ f, toZ-ofZ g) at e in
           rw (read-back w (a +ℤ b) q, toZ-ofZ f, toZ-ofZ g) (sum-told-by-signs (real-signed (bits w)) (omega (arith, halves w)) a b r (in-signed w f) (in-signed w g) q)
 
-      pub difference-told : r ≡ wrap S (toZ w (ofZ w a) -ℤ toZ w (ofZ w b)) → Told S (a -ℤ b) r (both-other (ltZ (toZ w (ofZ w a)) (pos 0)) (ltZ (toZ w (ofZ w b)) (pos 0)) (ltZ (toZ w (ofZ w r)) (pos 0)))
+      pub difference-told : r ≡ wrap S (toZ w (ofZ w a) -ℤ toZ w (ofZ w b)) → Told S (a -ℤ b) r (both-other (negative (toZ w (ofZ w a))) (negative (toZ w (ofZ w b))) (negative (toZ w (ofZ w r))))
       difference-told e =
           let q : r ≡ wrap S (a -ℤ b) = rw (toZ-ofZ f, toZ-ofZ g) at e in
           rw (read-back w (a -ℤ b) q, toZ-ofZ f, toZ-ofZ g) (difference-told-by-signs (real-signed (bits w)) (omega (arith, halves w)) a b r (in-signed w f) (in-signed w g) q)

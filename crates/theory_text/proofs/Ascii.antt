@@ -19,7 +19,7 @@ use Rattle.theory_text.specs.Scalar.{Scalar, form}
 use Rattle.theory_text.specs.Text.{Scalars, encode, Valid}
 use Rattle.theory_text.specs.Table.{first}
 use Rattle.theory_text.specs.Reading.{scalars, rest}
-use Rattle.theory_text.specs.Ascii.{AsciiIn, Ascii, AsciiRun}
+use Rattle.theory_text.specs.Ascii.{AsciiIn, Ascii}
 use Rattle.theory_text.proofs.Sizes.{in-one, form-as}
 use Rattle.theory_text.proofs.Rows.{row-00}
 use Rattle.theory_text.proofs.Forms.{reads-as}

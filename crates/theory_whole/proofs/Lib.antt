@@ -7,6 +7,7 @@ pub mod Wrap
 pub mod Refuse
 pub mod Clamp
 pub mod Overflow
+pub mod Signs
 pub mod ByQuotient
 pub mod Narrow
 pub mod Divisions

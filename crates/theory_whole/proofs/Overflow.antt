@@ -1,7 +1,7 @@
 -- A sum is told by what it wraps to. Where z lies less than the size away from a, a number of the kind, and r is z wrapped, z fits exactly
 -- where r lies on the same side of a as z does: the test that code makes, `(z < a) != (r < a)`, is that z does not fit.
 use mathlib.Core.Path.{_≡_, refl, sym, _∙_}
-use mathlib.Core.Bool.{Bool, true, false, not, _&&_, Bool·beq}
+use mathlib.Core.Bool.{Bool, true, false, not, Bool·beq}
 use mathlib.Core.Logic.{⊎-elim}
 use Prim.Native.Nat.{_+_, _≤_, _<_}
 use native.Mathlib.Omega.{arith}
@@ -32,10 +32,10 @@ sum-tested x y =
     let s = sum x y in
     record { yes = λ e. let l = lt-yes y (pos 0) e in omega arith; no = λ e. let l = lt-no y (pos 0) e in omega arith }
 
-less-so : {t : Bool} {x y : ℤ} → Less t x y → up x + down y < up y + down x → t ≡ true
+pub less-so : {t : Bool} {x y : ℤ} → Less t x y → up x + down y < up y + down x → t ≡ true
 less-so l h = so (λ e. let n = l .no e in omega arith)
 
-less-not : {t : Bool} {x y : ℤ} → Less t x y → up y + down x ≤ up x + down y → t ≡ false
+pub less-not : {t : Bool} {x y : ℤ} → Less t x y → up y + down x ≤ up x + down y → t ≡ false
 less-not l h = not-so (λ e. let n = l .yes e in omega arith)
 
 -- r is z wrapped, and d that z does not fit
@@ -102,106 +102,6 @@ module _ {k : Kind} (real : Real k) (a z r : ℤ) (i : In k a) (near : Near k a 
         outside : Out k z → t ≡ not u
         outside (under o) = let s = up-once o in rw (less-not l (omega arith), less-so m (omega arith))
         outside (over o) = let s = down-once o in rw (less-so l (omega arith), less-not m (omega arith))
-
--- ---- by signs alone, for a kind that reaches as far below 0 as above
-
--- of a sum: neither summand has the sign of what it wraps to
-abbrev pub neither : Bool → Bool → Bool → Bool
-neither t u v = not (Bool·beq t v) && not (Bool·beq u v)
-
--- of a difference: the second number has another sign than the first, and so has what it wraps to
-abbrev pub both-other : Bool → Bool → Bool → Bool
-both-other t u v = not (Bool·beq t u) && not (Bool·beq t v)
-
-module _ {k : Kind} (real : Real k) (even : k .size ≡ k .low + k .low) (a b r : ℤ) (i : In k a) (j : In k b) where
-  abbrev negative : ℤ → Bool
-  negative x = ltZ x (pos 0)
-
-  is-negative : (x : ℤ) → up x < down x → negative x ≡ true
-  is-negative x h = less-so (tested x (pos 0)) (omega arith)
-
-  not-negative : (x : ℤ) → down x ≤ up x → negative x ≡ false
-  not-negative x h = less-not (tested x (pos 0)) (omega arith)
-
-  pub sum-told-by-signs : r ≡ wrap k (a +ℤ b) → Told k (a +ℤ b) r (neither (negative a) (negative b) (negative r))
-  sum-told-by-signs e = record { wraps = e; tells = ⊎-elim inside outside (in-or-out k (a +ℤ b)) }
-    where
-      near : Near k a (a +ℤ b)
-      near = let s = sum a b in record { from-below = omega (arith, j .above, j .below); from-above = omega (arith, j .above, j .below) }
-
-      alike : (t u v : Bool) → (t ≡ u → v ≡ t) → neither t u v ≡ false
-      alike true true v f = rw (f refl)
-      alike true false true f = refl
-      alike true false false f = refl
-      alike false true true f = refl
-      alike false true false f = refl
-      alike false false v f = rw (f refl)
-
-      inside : In k (a +ℤ b) → neither (negative a) (negative b) (negative r) ≡ not (fits k (a +ℤ b))
-      inside h =
-          let s = sum a b in
-          let q = same-halves (e ∙ sym (wrap-same real (a +ℤ b) h)) in
-          rw (in-fits real (a +ℤ b) h)
-          (alike (negative a) (negative b) (negative r)
-          (λ same.
-          by-test (negative a)
-          (λ y. let l = lt-yes a (pos 0) y in
-          let m = lt-yes b (pos 0) (sym same ∙ y) in is-negative r (omega arith) ∙ sym y)
-          (λ n. let l = lt-no a (pos 0) n in
-          let m = lt-no b (pos 0) (sym same ∙ n) in not-negative r (omega arith) ∙ sym n)))
-
-      outside : Out k (a +ℤ b) → neither (negative a) (negative b) (negative r) ≡ not (fits k (a +ℤ b))
-      outside (under o) =
-          let s = sum a b in
-          let q = up-once real a (a +ℤ b) r i near e o in
-          rw (out-not-fits real (a +ℤ b) (under o), is-negative a (omega (arith, j .above)), is-negative b (omega (arith, i .above)), not-negative r (omega (arith, i .above, j .above)))
-      outside (over o) =
-          let s = sum a b in
-          let q = down-once real a (a +ℤ b) r i near e o in
-          rw (out-not-fits real (a +ℤ b) (over o), not-negative a (omega (arith, j .below)), not-negative b (omega (arith, i .below)), is-negative r (omega (arith, i .below, j .below)))
-
-  pub difference-told-by-signs : r ≡ wrap k (a -ℤ b) → Told k (a -ℤ b) r (both-other (negative a) (negative b) (negative r))
-  difference-told-by-signs e = record { wraps = e; tells = ⊎-elim inside outside (in-or-out k (a -ℤ b)) }
-    where
-      near : Near k a (a -ℤ b)
-      near = let s = difference a b in record { from-below = omega (arith, j .above, j .below); from-above = omega (arith, j .above, j .below) }
-
-      alike : (t u v : Bool) → (t ≡ not u → v ≡ t) → both-other t u v ≡ false
-      alike true true v f = refl
-      alike true false v f = rw (f refl)
-      alike false true v f = rw (f refl)
-      alike false false v f = refl
-
-      inside : In k (a -ℤ b) → both-other (negative a) (negative b) (negative r) ≡ not (fits k (a -ℤ b))
-      inside h =
-          let s = difference a b in
-          let q = same-halves (e ∙ sym (wrap-same real (a -ℤ b) h)) in
-          rw (in-fits real (a -ℤ b) h)
-          (alike (negative a) (negative b) (negative r)
-          (λ other.
-          by-test (negative a)
-          (λ y. let l = lt-yes a (pos 0) y in
-          let m = lt-no b (pos 0) (unlike (negative b) (sym other ∙ y)) in is-negative r (omega arith) ∙ sym y)
-          (λ n. let l = lt-no a (pos 0) n in
-          let m = lt-yes b (pos 0) (unlike-not (negative b) (sym other ∙ n)) in not-negative r (omega arith) ∙ sym n)))
-        where
-          unlike : (u : Bool) → not u ≡ true → u ≡ false
-          unlike true x = sym x
-          unlike false x = refl
-
-          unlike-not : (u : Bool) → not u ≡ false → u ≡ true
-          unlike-not true x = refl
-          unlike-not false x = sym x
-
-      outside : Out k (a -ℤ b) → both-other (negative a) (negative b) (negative r) ≡ not (fits k (a -ℤ b))
-      outside (under o) =
-          let s = difference a b in
-          let q = up-once real a (a -ℤ b) r i near e o in
-          rw (out-not-fits real (a -ℤ b) (under o), is-negative a (omega (arith, j .below)), not-negative b (omega (arith, i .above)), not-negative r (omega (arith, i .above, j .below)))
-      outside (over o) =
-          let s = difference a b in
-          let q = down-once real a (a -ℤ b) r i near e o in
-          rw (out-not-fits real (a -ℤ b) (over o), not-negative a (omega (arith, j .above)), is-negative b (omega (arith, i .below)), is-negative r (omega (arith, i .below, j .above)))
 
 -- what a checked operation answers by such a test
 module _ {k : Kind} (real : Real k) {z r : ℤ} {d : Bool} (told : Told k z r d) where

@@ -8,12 +8,12 @@ use Rattle.slices_copy.proofs.copy_block.Statement.{statement}
 use Rattle.slices_copy.proofs.copy_block.Tie as tie
 
 slice-aggregate-put : tie.Need-slice-aggregate-put
-slice-aggregate-put c = sym (ap length (c .before .before .held .ensures (omega arith) .1))
+slice-aggregate-put c = sym (ap length (c .before .before .held .ensures .0 (omega arith) .1))
 
 returns : tie.Need-returns
 returns c =
     let a = c .before .before .before .before .before .before .before .before .args in
-    let h = c .before .before .before .before .before .held .ensures (omega arith) .1 in
+    let h = c .before .before .before .before .before .held .ensures .0 (omega arith) .1 in
     ok-where (c .before .before .put .ensures) (search needs, omega (arith, ap length h)) .1 ∙ ap (written (a .d .now) (a .at)) h
 
 pub copy-block-spec : {M : Type 1} → statement M

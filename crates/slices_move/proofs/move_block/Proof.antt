@@ -12,13 +12,13 @@ slice-aggregate-put : tie.Need-slice-aggregate-put
 slice-aggregate-put c =
     let s = c .before .before .before .before .before .before in
     let a = s .args in
-    length-held _ (a .d .now) (a .from) (a .to) (a .to - a .from) (s .pre .0) refl refl (c .before .before .held .ensures (omega arith) .1)
+    length-held _ (a .d .now) (a .from) (a .to) (a .to - a .from) (s .pre .0) refl refl (c .before .before .held .ensures .0 (omega arith) .1)
 
 returns : tie.Need-returns
 returns c =
     let s = c .before .before .before .before .before .before .before .before .before in
     let a = s .args in
-    let h = c .before .before .before .before .before .held .ensures (omega arith) .1 in
+    let h = c .before .before .before .before .before .held .ensures .0 (omega arith) .1 in
     let l = length-held _ (a .d .now) (a .from) (a .to) (a .to - a .from) (s .pre .0) refl refl h in
     ok-where (c .before .before .put .ensures) (search needs, omega arith) .1 ∙ ap (written (a .d .now) (a .at)) (held-part _ (a .d .now) (a .from) (a .to) (a .to - a .from) (s .pre .0) refl refl h)
 

@@ -33,13 +33,13 @@ loop-again c =
 slice-aggregate-put : tie.Need-slice-aggregate-put Inv-loop μ-loop
 slice-aggregate-put c =
     let a = c .before .before .before .before .before .before .before .before .args in
-    length-held _ (a .d .now) (a .to - a .size) (a .to) (a .size) (search needs) (omega arith) refl (c .before .before .before .before .held .ensures (omega arith) .1)
+    length-held _ (a .d .now) (a .to - a .size) (a .to) (a .size) (search needs) (omega arith) refl (c .before .before .before .before .held .ensures .0 (omega arith) .1)
 
 returns : tie.Need-returns Inv-loop μ-loop
 returns c =
     let a = c .before .before .before .before .before .before .before .before .before .before .before .args in
     let l = c .before .before .before .before .before .before .loop in
-    let h = c .before .before .before .before .before .before .before .held .ensures (omega arith) .1 in
+    let h = c .before .before .before .before .before .before .before .held .ensures .0 (omega arith) .1 in
     let last = a .to - a .size in
     let there = a .at + (last - a .from) in
     let n = length-held _ (a .d .now) last (a .to) (a .size) (search needs) (omega arith) refl h in
