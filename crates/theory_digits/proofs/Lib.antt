@@ -2,6 +2,7 @@ pub mod Digits
 pub mod Parts
 pub mod High
 pub mod Bases
+pub mod BasesHigh
 pub mod Runs
 pub mod Bits
 pub mod Ends
