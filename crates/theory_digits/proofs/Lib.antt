@@ -10,5 +10,6 @@ pub mod Counting
 pub mod Reading
 pub mod Writing
 pub mod Facts
+pub mod Enough
 pub mod TooFew
 pub mod Powers
