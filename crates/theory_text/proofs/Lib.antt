@@ -10,6 +10,7 @@ pub mod Places
 pub mod Boundaries
 pub mod Ends
 pub mod Ascii
+pub mod OneSequence
 pub mod Counts
 pub mod ByValue
 pub mod Padded
