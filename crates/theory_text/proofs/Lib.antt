@@ -13,6 +13,7 @@ pub mod Ascii
 pub mod OneSequence
 pub mod Counts
 pub mod ByValue
+pub mod ByteRanges
 pub mod Padded
 pub mod WhiteSpace
 pub mod Written
