@@ -17,9 +17,13 @@ pub power-of-power : (b m k : ℕ) → (b ^ k) ^ m ≡ b ^ (m * k)
 power-of-power b zero k = rw (pow-zero, zero-mul, pow-zero)
 power-of-power b (suc m) k = rw (pow-suc, power-of-power b m k, suc-mul, pow-add)
 
+-- what leaves no remainder by k is so many times k: digits that can be regrouped have the length that the laws below ask for, with m = length ds / k
+pub whole-pieces : (k n : ℕ) → n % k ≡ 0 → n ≡ n / k * k
+whole-pieces k n e = sym (div-mul-cancel k (dvd-of-mod-eq-zero k e))
+
 -- bases of s and of t bits, where s divides t: t / s digits make one
 pub base-of-bits : (s t : ℕ) → t % s ≡ 0 → (2 ^ s) ^ (t / s) ≡ 2 ^ t
-base-of-bits s t e = power-of-power 2 (t / s) s ∙ ap (λ (n : ℕ). 2 ^ n) (div-mul-cancel s (dvd-of-mod-eq-zero s e))
+base-of-bits s t e = power-of-power 2 (t / s) s ∙ ap (λ (n : ℕ). 2 ^ n) (sym (whole-pieces s t e))
 
 pub some-make-one : {s t : ℕ} → 0 < s → s ≤ t → 0 < t / s
 some-make-one {s} {t} some l = le-div-iff-mul-le {k = s} {x = 1} {y = t} some .1 (omega arith)
