@@ -1,5 +1,5 @@
 -- Which of the facts are enough, beside `low-by-bits`, `low-by-all`, `low-by-shift` and those of the high end: `all` with `shifted`, and of ones at the low end
--- two facts alone. No smaller set is (TooFew).
+-- two facts alone. No smaller set is: WhichPin decides them all.
 use mathlib.Core.Path.{_≡_, sym, _∙_}
 use Prim.Native.Nat.{ℕ, zero, suc, _-_, _*_, _/_, _%_, _^_, _≤_, _<_}
 use native.Mathlib.Nat.{zero-mul, one-mul, mul-one, pow-zero, div-one, div-eq-of-lt, mod-eq-of-lt}

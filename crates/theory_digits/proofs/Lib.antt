@@ -1,6 +1,7 @@
 pub mod Digits
 pub mod Parts
 pub mod High
+pub mod PartsHigh
 pub mod Bases
 pub mod BasesHigh
 pub mod Runs
@@ -12,4 +13,5 @@ pub mod Writing
 pub mod Facts
 pub mod Enough
 pub mod TooFew
+pub mod WhichPin
 pub mod Powers
