@@ -89,7 +89,8 @@ larger-of-smaller b k p ds h =
     (length-larger b (length ds) k p (smaller b k ds) s l)
     (value-larger b (length ds) k p (smaller b k ds) s l ∙ value-smaller b k ds p h)
 
-pub larger-injective : (b m n k : ℕ) → 0 < b → (ds es : List ℕ) → AllBelow b ds → AllBelow b es → length ds ≡ m * k → length es ≡ n * k → larger b m k ds ≡ larger b n k es → ds ≡ es
+pub larger-injective : (b m n k : ℕ) → 0 < b → (ds es : List ℕ) → AllBelow b ds → AllBelow b es
+    → length ds ≡ m * k → length es ≡ n * k → larger b m k ds ≡ larger b n k es → ds ≡ es
 larger-injective b m n k p ds es h g l l′ e =
     sym (smaller-of-larger b m k p ds h l) ∙ rw e (smaller-of-larger b n k p es g l′)
 

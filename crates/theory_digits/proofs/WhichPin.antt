@@ -5,7 +5,8 @@ use mathlib.Core.Bool.{Bool, true, false, _&&_, _||_}
 use Prim.Native.Nat.{ℕ, _^_, _<_}
 use native.Mathlib.Omega.{arith}
 use Rattle.theory_digits.specs.Runs.{trailing, leading}
-use Rattle.theory_digits.proofs.Facts.{Within, All, LowNext, LowBefore, LowShifted, HighNext, HighBefore, HighShifted, low-by-bits, low-by-all, low-by-shift, high-by-bits, high-by-all, high-by-shift}
+use Rattle.theory_digits.proofs.Facts.{Within, All, LowNext, LowBefore, LowShifted, HighNext, HighBefore, HighShifted}
+use Rattle.theory_digits.proofs.Facts.{low-by-bits, low-by-all, low-by-shift, high-by-bits, high-by-all, high-by-shift}
 use Rattle.theory_digits.proofs.Enough.{low-by-all-shift, high-by-all-shift, trailing-ones-by-two}
 use Rattle.theory_digits.proofs.TooFew as too-few
 use Rattle.theory_digits.proofs.TooFew.{TwoAnswers}
@@ -22,11 +23,13 @@ asked false p = tt
 -- those of the list that are asked
 abbrev pub LowAsked : (within all next shifted before : Bool) (d w x t : ℕ) → Type 0
 LowAsked within all next shifted before d w x t =
-    Asked within (Within d w x t) × Asked all (All d w x t) × Asked next (LowNext d w x t) × Asked shifted (LowShifted d w x t) × Asked before (LowBefore d w x t)
+    Asked within (Within d w x t) × Asked all (All d w x t) × Asked next (LowNext d w x t)
+    × Asked shifted (LowShifted d w x t) × Asked before (LowBefore d w x t)
 
 abbrev pub HighAsked : (within all next shifted before : Bool) (d w x t : ℕ) → Type 0
 HighAsked within all next shifted before d w x t =
-    Asked within (Within d w x t) × Asked all (All d w x t) × Asked next (HighNext d w x t) × Asked shifted (HighShifted d w x t) × Asked before (HighBefore d w x t)
+    Asked within (Within d w x t) × Asked all (All d w x t) × Asked next (HighNext d w x t)
+    × Asked shifted (HighShifted d w x t) × Asked before (HighBefore d w x t)
 
 -- they pin the count of every number, or some number has two answers
 abbrev pub Decided : Bool → ((w x t : ℕ) → Type 0) → (ℕ → ℕ → ℕ) → Type 0
@@ -47,7 +50,8 @@ module _ {W A N S B : (w x t : ℕ) → Type 0} {count : ℕ → ℕ → ℕ}
     (by-all : (w x t : ℕ) → x < 2 ^ w → A w x t → N w x t → B w x t → t ≡ count w x)
     (by-shift : (w x t : ℕ) → x < 2 ^ w → W w x t → N w x t → S w x t → t ≡ count w x)
     (by-all-shift : (w x t : ℕ) → x < 2 ^ w → A w x t → N w x t → S w x t → t ≡ count w x) where
-  three-decide : (a l n s b : Bool) → Decided (n && ((a || l) && (s || b))) (λ w x t. Asked a (W w x t) × Asked l (A w x t) × Asked n (N w x t) × Asked s (S w x t) × Asked b (B w x t)) count
+  three-decide : (a l n s b : Bool)
+      → Decided (n && ((a || l) && (s || b))) (λ w x t. Asked a (W w x t) × Asked l (A w x t) × Asked n (N w x t) × Asked s (S w x t) × Asked b (B w x t)) count
   three-decide a l false s b = (x, fewer (λ t k. (asked a (k .0), asked l (k .1), tt, asked s (k .2), asked b (k .3))) no-next)
   three-decide false false true s b = (z, fewer (λ t k. (tt, tt, k .0, asked s (k .1), asked b (k .2))) no-within)
   three-decide true l true false false = (y, fewer (λ t k. (k .0, asked l (k .1), k .2, tt, tt)) no-before)

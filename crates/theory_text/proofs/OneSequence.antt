@@ -40,7 +40,8 @@ module _ (s : List ℕ) where
     λ p. (
       length (p .0),
       omega (arith, ap length (p .1 .1 .0), length-append (p .0) (p .1 .0)),
-      p .1 .1 .1 ∙ sym (ap (λ (l : List ℕ). place l (length (p .0))) (sym (p .1 .1 .0)) ∙ ap (λ (l : List ℕ). length (encode l)) (take-append-seam (p .0) (p .1 .0))),
+      p .1 .1 .1
+          ∙ sym (ap (λ (l : List ℕ). place l (length (p .0))) (sym (p .1 .1 .0)) ∙ ap (λ (l : List ℕ). length (encode l)) (take-append-seam (p .0) (p .1 .0))),
     ),
   )
 
@@ -61,7 +62,13 @@ module _ (s : List ℕ) (v : Valid s) where
         let l = valid-ends (scalars s) (scalars-are s) (some-scalars (scalars s) some) in
         let same : l .0 ≡ c = ends-unique s (l .0) c (subst (Ends (l .0)) (valid-encode s v) (l .1 .1 .1)) e in
         (l .1 .0, l .1 .1 .0 ∙ ap (λ (d : ℕ). l .1 .0 ++ d ∷ []) same),
-    λ p. (last-is-scalar (p .0) c (subst Scalars (p .1) (scalars-are s)), (encode (p .0), sym (encode-push (p .0) c) ∙ ap encode (sym (p .1)) ∙ valid-encode s v)),
+    λ p. (
+      last-is-scalar (p .0) c (subst Scalars (p .1) (scalars-are s)),
+      (
+        encode (p .0),
+        sym (encode-push (p .0) c) ∙ ap encode (sym (p .1)) ∙ valid-encode s v,
+      ),
+    ),
   )
 
   pub boundary-is-split : (at : ℕ) → Boundary s at ↔ Splits s at

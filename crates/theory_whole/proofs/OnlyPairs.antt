@@ -44,7 +44,8 @@ one-multiple m t s x y e h g =
         omega (arith, suc-mul t m)
 
 -- remainders that differ by less than b are of one pair
-one-pair : (b q r q′ r′ : ℤ) → q *ℤ b +ℤ r ≡ q′ *ℤ b +ℤ r′ → up r + down r′ < up r′ + down r + natAbs b → up r′ + down r < up r + down r′ + natAbs b → (q ≡ q′) × (r ≡ r′)
+one-pair : (b q r q′ r′ : ℤ) → q *ℤ b +ℤ r ≡ q′ *ℤ b +ℤ r′
+    → up r + down r′ < up r′ + down r + natAbs b → up r′ + down r < up r + down r′ + natAbs b → (q ≡ q′) × (r ≡ r′)
 one-pair b q r q′ r′ e h g =
     let same : q ≡ q′ = by-halves q q′ (quotient b e h g) in
     let e′ : q′ *ℤ b +ℤ r ≡ q′ *ℤ b +ℤ r′ = (rw same at e) in
