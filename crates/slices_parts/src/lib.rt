@@ -2,7 +2,7 @@
 // end), and asks nothing of its caller. a, e and m are counted from `from`, the answers from the start of s.
 ghost use mathlib.Core.Path.{_≡_};
 ghost use Prim.Native.Nat.{_+_, _-_, _≤_, _<_, min};
-ghost use Rattle.theory_lists.specs.Says.{Outcome};
+ghost use Rattle.theory_answers.specs.Says.{Outcome};
 ghost use Rattle.theory_lists.specs.Part.{Within, PartOrNone};
 
 #[repr(C)]

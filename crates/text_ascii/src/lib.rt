@@ -3,7 +3,7 @@ ghost use mathlib.Core.Path.{_≡_};
 ghost use mathlib.Core.Bool.{true};
 ghost use Prim.Native.Nat.{_+_, _≤_, _<_};
 ghost use lib.ListN.{length};
-ghost use Rattle.theory_lists.specs.Says.{Says};
+ghost use Rattle.theory_answers.specs.Says.{Says};
 ghost use Rattle.theory_text.specs.Ascii.{AsciiIn, Ascii, AsciiRun};
 
 // Every byte is looked at, so that many are looked at at once.

@@ -1,6 +1,6 @@
 // One scalar value: whether a number is one, how long its form is, white space. What is no scalar value is refused.
 ghost use mathlib.Core.Path.{_≡_};
-ghost use Rattle.theory_lists.specs.Says.{Says, Outcome};
+ghost use Rattle.theory_answers.specs.Says.{Says, Outcome};
 ghost use Rattle.theory_text.specs.Scalar.{Scalar, len};
 ghost use Rattle.theory_text.specs.WhiteSpace.{whiteSpace, listed};
 

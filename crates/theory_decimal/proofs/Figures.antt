@@ -1,14 +1,15 @@
 -- Figures and digits: each the other's text, piece by piece.
-use mathlib.Core.Path.{_≡_, refl, sym, ap, ap₂, _∙_}
+use mathlib.Core.Path.{_≡_, refl, ap, ap₂, _∙_}
 use mathlib.Core.Bool.{Bool, true, false, _&&_}
 use mathlib.Core.List.{List, [], _∷_, _++_, map, map-append}
-use Prim.Native.Nat.{ℕ, zero, suc, _+_, _-_, _*_, _^_, _≤_, _<_}
+use Prim.Native.Nat.{ℕ, _+_, _-_, _*_, _^_, _≤_, _<_}
 use native.Mathlib.Omega.{arith}
 use borrow.Author.Tests.{le-leb, leb-true}
 use lib.Dec.{leb}
 use lib.ListN.{length, length-map}
 use Rattle.theory_whole.proofs.Cases.{both, both-are}
-use Rattle.theory_digits.specs.Digits.{digitsHigh, valueHigh, AllBelow}
+use Rattle.theory_lists.specs.Bounds.{AllBelow}
+use Rattle.theory_digits.specs.Digits.{digitsHigh, valueHigh}
 use Rattle.theory_digits.proofs.High.{length-digitsHigh, digitsHigh-below, valueHigh-of-digitsHigh, valueHigh-append, valueHigh-push-lowest}
 use Rattle.theory_decimal.specs.Written.{figure, figures}
 use Rattle.theory_decimal.specs.Read.{isFigure, allFigures, digitsOf, meant}

@@ -2,15 +2,14 @@
 use mathlib.Core.Path.{_≡_, refl, sym, ap, _∙_}
 use mathlib.Core.Bool.{Bool, true, false}
 use mathlib.Core.List.{List, _∷_, []}
-use Prim.Native.Nat.{ℕ, suc, _+_, _≤_, _<_, _^_}
+use Prim.Native.Nat.{ℕ, _+_, _≤_, _<_, _^_}
 use native.Mathlib.Omega.{arith}
-use borrow.Author.Tests.{le-leb, lt-leb, le-ltb}
+use borrow.Author.Tests.{le-ltb}
 use lib.ListN.{length, set, length-set}
 use lib.IntN.{ℤ, pos, negsuc, natAbs}
 use lib.Signed.{ltZ}
 use Rattle.theory_lists.specs.Written.{written}
 use Rattle.theory_lists.proofs.Written.{length-written, written-one, written-twice-up}
-use Rattle.theory_digits.specs.Answers.{Writes}
 use Rattle.theory_decimal.specs.Written.{places, figures, natural, signed, whole, Shows}
 use Rattle.theory_decimal.proofs.Places.{places-hold}
 use Rattle.theory_decimal.proofs.Figures.{length-figures}
@@ -18,10 +17,10 @@ use Rattle.theory_decimal.proofs.Plain.{length-natural}
 
 module _ (s : List ℕ) (at : ℕ) (text : List ℕ) (count : ℕ) (l : length text ≡ count) where
   no-room : length s < at + count → Shows false 0 s at text s
-  no-room h = record { writes = record { in-range = sym (lt-leb (at + length text) (length s) (omega arith)); left = refl }; count = refl }
+  no-room h = record { asked = λ p. omega arith; given = (refl, refl) }
 
   room : at + count ≤ length s → (d : List ℕ) → d ≡ written s at text → Shows true count s at text d
-  room h d e = record { writes = record { in-range = sym (le-leb (at + length text) (length s) (omega arith)); left = e }; count = sym l }
+  room h d e = record { asked = omega arith; given = (sym l, e) }
 
 pub figures-hold : (n count : ℕ) → count ≡ places 10 n → n < 10 ^ count
 figures-hold n count e = let p : 1 < 10 = omega arith in rw e (places-hold 10 p n)
@@ -59,6 +58,6 @@ unfolding whole
 whole-by-sign (pos n) = rw (le-ltb n 0 (omega arith))
 whole-by-sign (negsuc n) = refl
 
-pub shown-by-sign : {ok : Bool} {bytes : ℕ} {s : List ℕ} {at : ℕ} {d : List ℕ} (t x : ℤ) (m : ℕ) → t ≡ x → m ≡ natAbs t
+pub shown-by-sign : {ok : Bool} {bytes : ℕ} {s : List ℕ} (at : ℕ) {d : List ℕ} (t x : ℤ) (m : ℕ) → t ≡ x → m ≡ natAbs t
     → Shows ok bytes s at (signed (ltZ t (pos 0)) m) d → Shows ok bytes s at (whole x) d
-shown-by-sign t x m z e h = rw (← z, ← whole-by-sign t, ← e) h
+shown-by-sign at t x m z e h = rw (← z, ← whole-by-sign t, ← e) h

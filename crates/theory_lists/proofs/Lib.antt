@@ -1,6 +1,7 @@
-pub mod Says
+pub mod Below
 pub mod Part
 pub mod Written
+pub mod Stored
 pub mod Tests
 pub mod Reverse
 pub mod Filled

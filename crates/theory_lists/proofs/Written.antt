@@ -1,13 +1,15 @@
 -- Laws of `written`: by index, which is all that there is to know of it; by stores; and by a part that was lent.
 use mathlib.Core.Path.{_≡_, refl, sym, ap, ap₂, _∙_}
+use mathlib.Core.Bool.{Bool}
 use mathlib.Core.List.{List, [], _∷_, _++_, append-nil, append-assoc}
 use Prim.Native.Nat.{ℕ, suc, _+_, _-_, _≤_, _<_}
 use native.Mathlib.Decide.{decLt}
 use native.Mathlib.Omega.{arith}
 use lib.ListN.{length, getD, set, take, drop, length-append, length-take, length-drop, take-append-drop, List·getD-append}
 use lib.Seq.{length-take-le, getD-take, getD-drop, getD-append-add, take-at, drop-at, drop-drop, take-take, take-append-le, drop-append-le, drop-append-add, drop-length, set-split, ext-getD}
+use Rattle.theory_answers.proofs.Says.{outcome-pinned}
 use Rattle.theory_lists.specs.Part.{part, Within}
-use Rattle.theory_lists.specs.Written.{written}
+use Rattle.theory_lists.specs.Written.{written, Writes}
 use Rattle.theory_lists.proofs.Part.{length-part, drop-take}
 
 module _ (s : List ℕ) (at : ℕ) (new : List ℕ) (fits : at + length new ≤ length s) where
@@ -144,3 +146,7 @@ module _ (s : List ℕ) (at : ℕ) (new : List ℕ) (fits : at + length new ≤ 
       let m : t - f ≤ length (drop f (take at s)) = omega (arith, length-drop f (take at s)) in
       rw (drop-append-le f (take at s) (new ++ drop (length new) (drop at s)) (omega arith), take-append-le (t - f) (drop f (take at s)) (new ++ drop (length new) (drop at s)) m, drop-take f at s)
       (take-take (t - f) (at - f) (drop f s) (omega arith))
+
+-- two writers of the same elements, at the same place of the same list, answer alike and leave the same
+pub pinned-writes : {ok ok′ : Bool} (before : List ℕ) (at : ℕ) (new : List ℕ) {after after′ : List ℕ} → Writes ok before at new after → Writes ok′ before at new after′ → (ok ≡ ok′) × (after ≡ after′)
+pinned-writes before at new w w′ = outcome-pinned w w′ (λ e e′. e ∙ sym e′) (λ e e′. e ∙ sym e′)

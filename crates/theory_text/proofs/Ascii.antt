@@ -10,11 +10,11 @@ use lib.ListN.{length, getD, take, drop, length-append, length-take, length-drop
 use lib.Seq.{drop-cons, getD-append-add}
 use borrow.Author.Tests.{ltb-true, ltb-false}
 use Rattle.theory_whole.proofs.Cases.{by-test}
-use Rattle.theory_lists.specs.Says.{Says}
+use Rattle.theory_answers.specs.Says.{Says}
 use Rattle.theory_lists.specs.Part.{part, Within}
-use Rattle.theory_lists.proofs.Says.{says-alike}
+use Rattle.theory_answers.proofs.Says.{says-alike}
 use Rattle.theory_lists.proofs.Part.{length-part, getD-part}
-use Rattle.theory_lists.proofs.Tests.{says-both, says-less}
+use Rattle.theory_answers.proofs.Tests.{says-both, says-less}
 use Rattle.theory_text.specs.Scalar.{Scalar, form}
 use Rattle.theory_text.specs.Text.{Scalars, encode, Valid}
 use Rattle.theory_text.specs.Table.{first}

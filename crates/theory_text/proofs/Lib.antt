@@ -16,6 +16,5 @@ pub mod ByValue
 pub mod ByteRanges
 pub mod Padded
 pub mod WhiteSpace
-pub mod Written
 pub mod Answers
 pub mod Automaton

@@ -2,7 +2,7 @@
 use Prim.Native.Nat.{ℕ}
 use mathlib.Core.Path.{_≡_}
 use mathlib.Core.Bool.{Bool}
-use Rattle.theory_lists.specs.Says.{Outcome}
+use Rattle.theory_answers.specs.Says.{Outcome}
 use Rattle.theory_text.specs.Scalar.{len}
 
 -- `Is c` says that c is the scalar asked for

@@ -2,7 +2,7 @@ use borrow.Author.Needs.{needs}
 use native.Mathlib.Omega.{arith}
 use Prim.Native.Nat.{_-_, _≤_}
 use lib.ListN.{length}
-use Rattle.theory_lists.specs.Says.{Says}
+use Rattle.theory_answers.specs.Says.{Says}
 use Rattle.theory_text.specs.Ascii.{AsciiIn}
 use Rattle.theory_text.proofs.Ascii.{ascii-none, says-ascii-next, says-ascii-whole}
 use Rattle.text_ascii.proofs.all.Statement.{statement}

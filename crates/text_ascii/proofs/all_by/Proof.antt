@@ -3,7 +3,7 @@ use borrow.Author.Tests.{not-true, not-false}
 use native.Mathlib.Omega.{arith}
 use Prim.Native.Nat.{_-_, _+_, _≤_}
 use lib.ListN.{length}
-use Rattle.theory_lists.proofs.Says.{says-true, says-false}
+use Rattle.theory_answers.proofs.Says.{says-true, says-false}
 use Rattle.theory_text.specs.Ascii.{AsciiIn}
 use Rattle.theory_text.proofs.Ascii.{ascii-none, ascii-join, ascii-of-part, ascii-in-part, says-ascii-rest}
 use Rattle.text_ascii.proofs.all_by.Statement.{statement}

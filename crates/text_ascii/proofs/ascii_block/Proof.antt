@@ -3,7 +3,7 @@ use native.Mathlib.Omega.{arith}
 use mathlib.Core.Path.{refl}
 use Prim.Native.Nat.{_+_}
 use Rattle.theory_whole.proofs.Cases.{never}
-use Rattle.theory_lists.proofs.Says.{says-true}
+use Rattle.theory_answers.proofs.Says.{says-true}
 use Rattle.theory_text.proofs.Ascii.{ascii-in-part}
 use Rattle.text_ascii.proofs.ascii_block.Statement.{statement}
 use Rattle.text_ascii.proofs.ascii_block.Tie as tie

@@ -1,7 +1,7 @@
 use borrow.Author.Needs.{needs}
 use mathlib.Core.Path.{refl}
 use borrow.Author.Tests.{not-true, not-false}
-use Rattle.theory_lists.proofs.Says.{accepted, says-false}
+use Rattle.theory_answers.proofs.Says.{accepted, says-false}
 use native.Mathlib.Omega.{arith}
 use Rattle.text_write.proofs.write.Statement.{statement}
 use Rattle.text_write.proofs.write.Tie as tie

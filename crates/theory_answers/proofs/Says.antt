@@ -1,7 +1,7 @@
 -- How an answer is used, and that it is pinned: one question has one answer.
-use mathlib.Core.Path.{_≡_, refl, sym, subst}
+use mathlib.Core.Path.{_≡_, refl}
 use mathlib.Core.Bool.{Bool, true, false}
-use Rattle.theory_lists.specs.Says.{Says, Given, Outcome}
+use Rattle.theory_answers.specs.Says.{Says, Given, Outcome}
 
 pub says-true : {b : Bool} {P : Type 0} → Says b P → b ≡ true → P
 says-true {b} {P} s e = rw e at s
@@ -51,10 +51,7 @@ outcome-alike {ok} {P} {Q} {X} {Z} {Y} {W} to from given left o = record { asked
 
 -- two answers to one question are both ok or both refused; so they are equal in what both outcomes settle
 pub outcome-pinned : {ok ok′ : Bool} {P X X′ Y Y′ E : Type 0} → Outcome ok P X Y → Outcome ok′ P X′ Y′ → (X → X′ → E) → (Y → Y′ → E) → (ok ≡ ok′) × E
-outcome-pinned {ok} {ok′} {P} {X} {X′} {Y} {Y′} {E} o o′ given left =
-    let e = pinned-says ok ok′ P (o .asked) (o′ .asked) in
-    (e, by ok (o .given) (subst (λ (b : Bool). Given b X′ Y′) (sym e) (o′ .given)))
-  where
-    by : (b : Bool) → Given b X Y → Given b X′ Y′ → E
-    by true x x′ = given x x′
-    by false y y′ = left y y′
+outcome-pinned {ok = true} {ok′ = true} o o′ given left = (refl, given (o .given) (o′ .given))
+outcome-pinned {ok = true} {ok′ = false} o o′ given left = absurd (o′ .asked (o .asked))
+outcome-pinned {ok = false} {ok′ = true} o o′ given left = absurd (o .asked (o′ .asked))
+outcome-pinned {ok = false} {ok′ = false} o o′ given left = (refl, left (o .given) (o′ .given))
