@@ -10,7 +10,8 @@ use lib.ListN.{length, getD, take, drop, length-take}
 use lib.Seq.{take-add, drop-drop, drop-cons, getD-take, getD-drop}
 use borrow.Author.Tests.{eqb-true, ltb-true}
 use Rattle.theory_whole.proofs.Cases.{by-test, both-are}
-use Rattle.theory_text.specs.Table.{has, After, more, wrong, after}
+use Rattle.theory_lists.specs.Bounds.{between}
+use Rattle.theory_text.specs.Table.{After, more, wrong, after}
 use Rattle.theory_text.specs.Reading.{ReadFrom}
 use Rattle.theory_text.proofs.Pieces.{read-from}
 use Rattle.theory_text.specs.Automaton.{step, run}
@@ -31,7 +32,7 @@ row-right : ℕ → Bool
 row-right b = every (right b) 0 9
 
 all-right : every row-right 0 256 ≡ true
-unfolding right row-right table after has
+unfolding right row-right table after between
 all-right = refl
 
 module _ (b q : ℕ) (hb : b < 256) (hq : q < 9) where
@@ -78,11 +79,11 @@ module _ (s : List ℕ) (i : ℕ) where
   moves-one x y h g e = record { good = g; moved = e ∙ ap (run (state x)) (sym (one-byte h)) }
 
   -- ASCII between two scalars
-  pub moves-ascii : (n x : ℕ) → x % 64 ≡ 0 → AsciiIn s i (i + n) → i + n ≤ length s → Moves s i n x 0
+  pub moves-ascii : (n x : ℕ) → x % 64 ≡ 0 → Ascii (part i (i + n) s) → i + n ≤ length s → Moves s i n x 0
   unfolding state
   moves-ascii n x z a h =
       let f : state x ≡ more [] = ap (λ (k : ℕ). getD states (k / 6) wrong) z in
-      let v : Ascii (take n (drop i s)) = λ j l. rw (getD-take n (drop i s) j 0 (omega (arith, length-take n (drop i s))), getD-drop i s j 0) (a (i + j) (omega arith) (omega (arith, length-take n (drop i s)))) in
+      let v : Ascii (take n (drop i s)) = subst (λ (k : ℕ). Ascii (take k (drop i s))) (add-sub-cancel-left n i) a in
       record { good = good-zero; moved = sym (ap (λ (q : After). run q (take n (drop i s))) f ∙ valid-run (take n (drop i s)) (ascii-valid (take n (drop i s)) v)) }
 
 pub zero-idle : (x : ℕ) → x % 64 ≡ 0 → state x ≡ more []

@@ -6,7 +6,7 @@ ghost use lib.ListN.{length, drop};
 ghost use Rattle.theory_answers.specs.Says.{Says, Outcome};
 ghost use Rattle.theory_text.specs.Text.{Valid};
 ghost use Rattle.theory_text.specs.Reading.{scalars, validTo, ReadFrom};
-ghost use Rattle.theory_text.specs.ByValue.{follows};
+ghost use Rattle.theory_text.specs.Scalar.{follows};
 ghost use Rattle.theory_text.specs.Boundary.{Boundary, Splits, started};
 ghost use Rattle.text_valid.specs.Onward.{Onward};
 

@@ -13,11 +13,12 @@ use Rattle.theory_answers.specs.Answer.{Answer, refused, answered}
 use Rattle.theory_whole.proofs.Cases.{both-are}
 use Rattle.theory_answers.proofs.Answer.{only-if-so}
 use Rattle.theory_digits.proofs.High.{valueHigh-below, valueHigh-push-highest, digitsHigh-of-valueHigh}
+use Rattle.theory_lists.proofs.Between.{bounds-of}
 use Rattle.theory_decimal.specs.Written.{places, figure, figures, natural, whole}
 use Rattle.theory_decimal.specs.Read.{isFigure, allFigures, digitsOf, meant, sayingNatural, sayingWhole, negated}
 use Rattle.theory_decimal.specs.Plain.{Plain, PlainWhole, without-sign, with-sign}
 use Rattle.theory_decimal.proofs.Places.{places-some, places-hold, places-least}
-use Rattle.theory_decimal.proofs.Figures.{length-figures, figures-are, figures-mean, figure-is, digits-below-ten, figures-of-digits}
+use Rattle.theory_decimal.proofs.Figures.{length-figures, figures-are, figures-mean, digits-below-ten, figures-of-digits}
 
 -- ---- what figures say
 
@@ -30,7 +31,7 @@ pub figures-have-no-sign : (text : List ℕ) → allFigures text ≡ true → sa
 unfolding sayingWhole sayingNatural allFigures
 figures-have-no-sign [] e = refl
 figures-have-no-sign (c ∷ text) e =
-    let f = figure-is c (both-are (isFigure c) (allFigures text) e .0) in
+    let f = bounds-of 0x30 0x39 c (both-are (isFigure c) (allFigures text) e .0) in
     let n : c ≡ 0x2d → ⊥ = λ s. omega (arith, f .0) in
     rw (ne-eqb c 0x2d n)
 
@@ -78,7 +79,7 @@ module _ (c : ℕ) (rest : List ℕ) (e : allFigures (c ∷ rest) ≡ true) wher
 
   first-figure : (0x30 ≤ c) × (c ≤ 0x39)
   unfolding allFigures
-  first-figure = figure-is c (both-are (isFigure c) (allFigures rest) e .0)
+  first-figure = bounds-of 0x30 0x39 c (both-are (isFigure c) (allFigures rest) e .0)
 
   pub places-within : places 10 (meant (c ∷ rest)) ≤ suc (length rest)
   places-within = let p : 1 < 10 = omega arith in places-least 10 p (length rest) (meant (c ∷ rest)) (meant-below (c ∷ rest) e)

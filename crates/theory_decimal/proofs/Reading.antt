@@ -5,7 +5,7 @@ use mathlib.Core.List.{List, [], _∷_, _++_}
 use Prim.Native.Nat.{ℕ, _+_, _-_, _*_, _^_, _≤_, _<_}
 use native.Mathlib.Nat.{mul-one, one-le-pow, mul-le-mul-left}
 use native.Mathlib.Omega.{arith}
-use borrow.Author.Tests.{le-leb, lt-leb, leb-true, leb-false}
+use borrow.Author.Tests.{leb-true, leb-false}
 use lib.Dec.{leb}
 use lib.ListN.{length, getD}
 use lib.IntN.{ℤ, pos, negsuc}
@@ -13,13 +13,14 @@ use lib.Pow.{pow-pos}
 use Rattle.theory_whole.specs.Kind.{Kind, unsigned}
 use Rattle.theory_answers.specs.Answer.{Answer, refused, answered, Answers}
 use Rattle.theory_whole.specs.Fit.{refuse}
-use Rattle.theory_whole.proofs.Cases.{by-test, both, both-are, first-not, second-not, never}
+use Rattle.theory_whole.proofs.Cases.{by-test, both-are, never}
 use Rattle.theory_whole.proofs.Fits.{Out, under, over, real-unsigned}
 use Rattle.theory_answers.proofs.Answer.{refusal, only-if-so, only-if-not}
 use Rattle.theory_whole.proofs.Refuse.{accepted, declined}
 use Rattle.theory_whole.proofs.Unsigned.{natural-fits, natural-over, unsigned-below}
 use Rattle.theory_lists.specs.Part.{part, Within, isWithin}
 use Rattle.theory_lists.proofs.Part.{is-within, not-within, length-part, part-none, part-append, part-cons}
+use Rattle.theory_lists.proofs.Between.{is-between, not-below, not-above}
 use Rattle.theory_decimal.specs.Read.{isFigure, allFigures, meant, sayingNatural, sayingWhole, fitting, pushed, readIn, naturalIn}
 use Rattle.theory_decimal.proofs.Figures.{all-append, meant-append, meant-push}
 use Rattle.theory_decimal.proofs.Plain.{figures-say}
@@ -80,17 +81,15 @@ module _ (w n c : ℕ) where
   other e = refusal (pushed (unsigned w) n c) (only-if-not (isFigure c) (refuse (unsigned w) (pos (c - 0x30 + 10 * n))) e)
 
   pub other-below : c < 0x30 → Answers false (pos 0) (pushed (unsigned w) n c)
-  unfolding isFigure
-  other-below h = other (first-not (leb c 0x39) (lt-leb 0x30 c h))
+  other-below h = other (not-below 0x30 0x39 c h)
 
   pub other-above : 0x39 < c → Answers false (pos 0) (pushed (unsigned w) n c)
-  unfolding isFigure
-  other-above h = other (second-not (leb 0x30 c) (lt-leb c 0x39 h))
+  other-above h = other (not-above 0x30 0x39 c h)
 
   module _ (low : 0x30 ≤ c) (high : c ≤ 0x39) where
     figure-pushed : pushed (unsigned w) n c ≡ refuse (unsigned w) (pos (c - 0x30 + 10 * n))
-    unfolding pushed isFigure
-    figure-pushed = only-if-so (isFigure c) (refuse (unsigned w) (pos (c - 0x30 + 10 * n))) (both (le-leb 0x30 c low) (le-leb c 0x39 high))
+    unfolding pushed
+    figure-pushed = only-if-so (isFigure c) (refuse (unsigned w) (pos (c - 0x30 + 10 * n))) (is-between 0x30 0x39 c low high)
 
     pub figure-over : 2 ^ w ≤ c - 0x30 + 10 * n → Answers false (pos 0) (pushed (unsigned w) n c)
     figure-over h = rw figure-pushed (natural-over w h)

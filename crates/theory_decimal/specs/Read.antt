@@ -11,7 +11,7 @@ use Rattle.theory_lists.specs.Part.{part, isWithin}
 use Rattle.theory_lists.specs.Bounds.{between}
 use Rattle.theory_digits.specs.Digits.{valueHigh}
 
-unfoldable pub isFigure : ℕ → Bool
+abbrev pub isFigure : ℕ → Bool
 isFigure c = between 0x30 0x39 c
 
 unfoldable pub allFigures : List ℕ → Bool

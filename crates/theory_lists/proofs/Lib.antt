@@ -1,5 +1,7 @@
-pub mod Below
+pub mod Between
 pub mod Part
+pub mod Below
+pub mod Listed
 pub mod Written
 pub mod Stored
 pub mod Tests

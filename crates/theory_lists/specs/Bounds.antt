@@ -4,7 +4,7 @@ use mathlib.Core.List.{List, [], _∷_}
 use Prim.Native.Nat.{ℕ, _<_}
 use lib.Dec.{leb}
 
-abbrev pub between : ℕ → ℕ → ℕ → Bool
+unfoldable pub between : ℕ → ℕ → ℕ → Bool
 between low high x = leb low x && leb x high
 
 unfoldable pub AllBelow : ℕ → List ℕ → Type 0

@@ -6,8 +6,9 @@ use Prim.Native.Nat.{ℕ, zero, suc, _<_}
 use native.Mathlib.Omega.{arith}
 use lib.ListN.{length, drop}
 use Rattle.theory_whole.proofs.Cases.{by-test, never, both-are}
+use Rattle.theory_lists.specs.Bounds.{between}
 use Rattle.theory_text.specs.Text.{Valid}
-use Rattle.theory_text.specs.Table.{Range, After, more, wrong, has, after, matches, followed, first}
+use Rattle.theory_text.specs.Table.{Range, After, more, wrong, after, matches, followed, first}
 use Rattle.theory_text.specs.Reading.{rest}
 use Rattle.theory_text.specs.Automaton.{step, run}
 use Rattle.theory_text.proofs.Tests.{by-cond}
@@ -32,13 +33,13 @@ idle (more (r ∷ rs)) = false
 matches-run : (rs : List Range) (s : List ℕ) → matches rs s ≡ true → run (more rs) s ≡ run (more []) (drop (length rs) s)
 matches-run [] s e = refl
 matches-run (r ∷ rs) [] e = never e refl
-matches-run (r ∷ rs) (b ∷ s) e = let p = both-are (has r b) (matches rs s) e in rw (p .0) (matches-run rs s (p .1))
+matches-run (r ∷ rs) (b ∷ s) e = let p = both-are (between (r .low) (r .high) b) (matches rs s) e in rw (p .0) (matches-run rs s (p .1))
 
 run-matches : (rs : List Range) (s : List ℕ) → idle (run (more rs) s) ≡ true → matches rs s ≡ true
 run-matches [] s e = refl
 run-matches (r ∷ rs) [] e = never e refl
 run-matches (r ∷ rs) (b ∷ s) e =
-    by-test (has r b)
+    by-test (between (r .low) (r .high) b)
     (λ t. rw t (run-matches rs s (rw t at e)))
     (λ t. never (rw (t, run-wrong s) at e) refl)
 

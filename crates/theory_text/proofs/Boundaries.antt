@@ -13,7 +13,7 @@ use Rattle.theory_text.specs.Scalar.{len}
 use Rattle.theory_text.specs.Text.{Scalars, encode, Valid}
 use Rattle.theory_text.specs.Table.{first}
 use Rattle.theory_text.specs.Reading.{value, scalars}
-use Rattle.theory_text.specs.ByValue.{follows}
+use Rattle.theory_text.specs.Scalar.{follows}
 use Rattle.theory_text.specs.Boundary.{place, Boundary, Splits, starts}
 use Rattle.theory_text.proofs.Steps.{rest-step, scalars-step, first-len}
 use Rattle.theory_text.proofs.Unique.{scalars-are, valid-encode, encode-valid, valid-rest, rest-valid}

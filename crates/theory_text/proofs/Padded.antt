@@ -6,9 +6,10 @@ use native.Mathlib.Omega.{arith}
 use native.Mathlib.Nat.{add-zero}
 use lib.ListN.{length, getD, drop}
 use lib.Seq.{drop-cons, getD-drop}
-use Rattle.theory_text.specs.Table.{After, has, followed, first}
+use Rattle.theory_lists.specs.Bounds.{between}
+use Rattle.theory_text.specs.Table.{After, followed, first}
 use Rattle.theory_text.specs.Reading.{valueOf, value}
-use Rattle.theory_text.proofs.Rows.{Row, row-00, row-c2, row-e0, row-e1, row-ed, row-ee, row-f0, row-f1, row-f4, between, beyond, row}
+use Rattle.theory_text.proofs.Rows.{Row, row-00, row-c2, row-e0, row-e1, row-ed, row-ee, row-f0, row-f1, row-f4, gap, beyond, row}
 
 abbrev pub four : ℕ → ℕ → ℕ → ℕ → List ℕ
 four b0 b1 b2 b3 = b0 ∷ b1 ∷ b2 ∷ b3 ∷ []
@@ -17,7 +18,7 @@ abbrev padded : List ℕ → List ℕ
 padded bs = getD bs 0 0 ∷ getD bs 1 0 ∷ getD bs 2 0 ∷ []
 
 pad : {b : ℕ} {a : After} → Row b a → (bs : List ℕ) → followed a bs ≡ followed a (padded bs)
-unfolding has
+unfolding between
 pad (row-00 h) bs = refl
 pad (row-c2 l h) [] = refl
 pad (row-c2 l h) (x ∷ bs) = refl
@@ -45,7 +46,7 @@ pad (row-f4 e) [] = refl
 pad (row-f4 e) (x ∷ []) = refl
 pad (row-f4 e) (x ∷ y ∷ []) = refl
 pad (row-f4 e) (x ∷ y ∷ z ∷ bs) = refl
-pad (between l h) bs = refl
+pad (gap l h) bs = refl
 pad (beyond l) bs = refl
 
 pub first-four : (b : ℕ) (bs : List ℕ) → first (b ∷ bs) ≡ first (b ∷ padded bs)

@@ -5,11 +5,10 @@ use mathlib.Core.List.{List}
 use Prim.Native.Nat.{ℕ, _-_, _<_}
 use native.Mathlib.Omega.{arith}
 use lib.ListN.{length, drop}
-use Rattle.theory_text.specs.Text.{Begins, Ends}
+use Rattle.theory_text.specs.Text.{Begins, Ends, ReadIs}
 use Rattle.theory_text.specs.Table.{first}
 use Rattle.theory_text.specs.Reading.{value}
 use Rattle.theory_text.specs.Boundary.{Back}
-use Rattle.theory_text.specs.Answer.{ReadIs}
 use Rattle.theory_text.specs.Scalar.{len}
 use Rattle.theory_text.proofs.Steps.{first-len}
 use Rattle.theory_text.proofs.Ends.{first-begins, begins-none, read-ends, back-ends, ends-first, ends-length}
