@@ -10,7 +10,7 @@ use lib.IntN.{ℤ, pos, negsuc, natAbs}
 use lib.Signed.{ltZ}
 use Rattle.theory_lists.specs.Written.{written}
 use Rattle.theory_lists.proofs.Written.{length-written, written-one, written-twice-up}
-use Rattle.theory_decimal.specs.Written.{places, figures, natural, signed, whole, Shows}
+use Rattle.theory_decimal.specs.Written.{places, figures, natural, withSign, whole, Shows}
 use Rattle.theory_decimal.proofs.Places.{places-hold}
 use Rattle.theory_decimal.proofs.Figures.{length-figures}
 use Rattle.theory_decimal.proofs.Plain.{length-natural}
@@ -53,11 +53,11 @@ module _ (s : List ℕ) (at n count : ℕ) (e : count ≡ places 10 n) where
       ap length w ∙ length-written (set s at 0x2d) (at + 1) (figures count n) (omega (arith, length-figures count n)) ∙ l
 
 -- a signed number's text from its sign and its magnitude
-pub whole-by-sign : (z : ℤ) → signed (ltZ z (pos 0)) (natAbs z) ≡ whole z
+pub whole-by-sign : (z : ℤ) → withSign (ltZ z (pos 0)) (natAbs z) ≡ whole z
 unfolding whole
 whole-by-sign (pos n) = rw (le-ltb n 0 (omega arith))
 whole-by-sign (negsuc n) = refl
 
 pub shown-by-sign : {ok : Bool} {bytes : ℕ} {s : List ℕ} (at : ℕ) {d : List ℕ} (t x : ℤ) (m : ℕ) → t ≡ x → m ≡ natAbs t
-    → Shows ok bytes s at (signed (ltZ t (pos 0)) m) d → Shows ok bytes s at (whole x) d
+    → Shows ok bytes s at (withSign (ltZ t (pos 0)) m) d → Shows ok bytes s at (whole x) d
 shown-by-sign at t x m z e h = rw (← z, ← whole-by-sign t, ← e) h

@@ -31,12 +31,12 @@ unfoldable pub natural : ℕ → List ℕ
 natural n = figures (places 10 n) n
 
 -- with '-' in front, which is 0x2d, or without
-abbrev pub signed : Bool → ℕ → List ℕ
-signed negative n = cond negative (0x2d ∷ natural n) (natural n)
+abbrev pub withSign : Bool → ℕ → List ℕ
+withSign negative n = cond negative (0x2d ∷ natural n) (natural n)
 
 unfoldable pub whole : ℤ → List ℕ
-whole (pos n) = signed false n
-whole (negsuc n) = signed true (suc n)
+whole (pos n) = withSign false n
+whole (negsuc n) = withSign true (suc n)
 
 -- how a writer of decimal text answers, and what it leaves: how many bytes it wrote, and 0 where there was no room
 abbrev pub Shows : Bool → ℕ → List ℕ → ℕ → List ℕ → List ℕ → Type 0
