@@ -8,7 +8,7 @@ use lib.ListN.{length, getD, drop}
 use lib.Seq.{drop-cons, getD-drop}
 use Rattle.theory_lists.specs.Bounds.{between}
 use Rattle.theory_text.specs.Table.{After, followed, first}
-use Rattle.theory_text.specs.Reading.{valueOf, value}
+use Rattle.theory_text.specs.Reading.{valueOf, decoded}
 use Rattle.theory_text.proofs.Rows.{Row, row-00, row-c2, row-e0, row-e1, row-ed, row-ee, row-f0, row-f1, row-f4, gap, beyond, row}
 
 abbrev pub four : ℕ → ℕ → ℕ → ℕ → List ℕ
@@ -61,7 +61,7 @@ first-at s at h =
     ap first (drop-cons s at 0 h) ∙ first-four (getD s at 0) (drop (suc at) s)
     ∙ rw (ahead s at 0 1 (omega arith), ahead s at 1 2 (omega arith), ahead s at 2 3 (omega arith))
 
-pub value-at : (s : List ℕ) (at n : ℕ) → value n (drop at s) ≡ valueOf n (getD s at 0) (getD s (at + 1) 0) (getD s (at + 2) 0) (getD s (at + 3) 0)
+pub value-at : (s : List ℕ) (at n : ℕ) → decoded n (drop at s) ≡ valueOf n (getD s at 0) (getD s (at + 1) 0) (getD s (at + 2) 0) (getD s (at + 3) 0)
 value-at s at n = simp (getD-drop, add-zero)
 
 pub value-four : (n b0 b1 b2 b3 : ℕ) → 4 ≤ n → ((b0 % 8 * 64 + b1 % 64) * 64 + b2 % 64) * 64 + b3 % 64 ≡ valueOf n b0 b1 b2 b3

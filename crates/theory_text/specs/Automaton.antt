@@ -10,6 +10,6 @@ step wrong b = wrong
 step (more []) b = after b
 step (more (r ∷ rs)) b = cond (between (r .low) (r .high) b) (more rs) wrong
 
-abbrev pub run : After → List ℕ → After
-run q [] = q
-run q (b ∷ bs) = run (step q b) bs
+abbrev pub steps : After → List ℕ → After
+steps q [] = q
+steps q (b ∷ bs) = steps (step q b) bs
