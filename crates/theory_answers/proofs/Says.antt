@@ -29,17 +29,17 @@ pinned-says false true P s s′ = absurd (s s′)
 pinned-says false false P s s′ = refl
 
 module _ {ok : Bool} {P X Y : Type 0} (o : Outcome ok P X Y) where
-  pub accepted : ok ≡ true → P × X
-  accepted e = (says-true (o .asked) e, rw e at (o .given))
+  pub ok-tells : ok ≡ true → P × X
+  ok-tells e = (says-true (o .asked) e, rw e at (o .given))
 
-  pub refused : ok ≡ false → (P → ⊥) × Y
-  refused e = (says-false (o .asked) e, rw e at (o .given))
+  pub refused-tells : ok ≡ false → (P → ⊥) × Y
+  refused-tells e = (says-false (o .asked) e, rw e at (o .given))
 
   pub ok-where : P → (ok ≡ true) × X
-  ok-where p = let e = true-where ok (o .asked) p in (e, accepted e .1)
+  ok-where p = let e = true-where ok (o .asked) p in (e, ok-tells e .1)
 
   pub refused-where : (P → ⊥) → (ok ≡ false) × Y
-  refused-where n = let e = false-where ok (o .asked) n in (e, refused e .1)
+  refused-where n = let e = false-where ok (o .asked) n in (e, refused-tells e .1)
 
 -- the same answer in other words: what was asked, and what each outcome says
 pub outcome-alike : {ok : Bool} {P Q X Z Y W : Type 0} → (P → Q) → (Q → P) → (P → X → Z) → (Y → W) → Outcome ok P X Y → Outcome ok Q Z W

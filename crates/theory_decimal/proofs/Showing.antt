@@ -34,21 +34,21 @@ module _ (s : List ℕ) (at n count : ℕ) (e : count ≡ places 10 n) where
   natural-shown h d w = room s at (natural n) count (length-natural n ∙ sym e) h d (w ∙ rw e)
 
   -- with '-' in front
-  length-signed : length (0x2d ∷ natural n) ≡ count + 1
-  length-signed = omega (arith, length-natural n)
+  length-with-sign : length (0x2d ∷ natural n) ≡ count + 1
+  length-with-sign = omega (arith, length-natural n)
 
-  pub signed-no-room : length s < at + (count + 1) → Shows false 0 s at (0x2d ∷ natural n) s
-  signed-no-room = no-room s at (0x2d ∷ natural n) (count + 1) length-signed
+  pub with-sign-no-room : length s < at + (count + 1) → Shows false 0 s at (0x2d ∷ natural n) s
+  with-sign-no-room = no-room s at (0x2d ∷ natural n) (count + 1) length-with-sign
 
-  pub signed-shown : at + (count + 1) ≤ length s → (d : List ℕ) → d ≡ written (set s at 0x2d) (at + 1) (figures count n) → Shows true (count + 1) s at (0x2d ∷ natural n) d
+  pub with-sign-shown : at + (count + 1) ≤ length s → (d : List ℕ) → d ≡ written (set s at 0x2d) (at + 1) (figures count n) → Shows true (count + 1) s at (0x2d ∷ natural n) d
   unfolding natural
-  signed-shown h d w =
-      room s at (0x2d ∷ natural n) (count + 1) length-signed h d
+  with-sign-shown h d w =
+      room s at (0x2d ∷ natural n) (count + 1) length-with-sign h d
       (w ∙ ap (λ (r : List ℕ). written r (at + 1) (figures count n)) (written-one s at 0x2d (omega arith))
       ∙ written-twice-up s at (0x2d ∷ []) (figures count n) (omega (arith, length-figures count n)) ∙ rw e)
 
-  pub signed-length : at + (count + 1) ≤ length s → (d : List ℕ) → d ≡ written (set s at 0x2d) (at + 1) (figures count n) → length d ≡ length s
-  signed-length h d w =
+  pub with-sign-length : at + (count + 1) ≤ length s → (d : List ℕ) → d ≡ written (set s at 0x2d) (at + 1) (figures count n) → length d ≡ length s
+  with-sign-length h d w =
       let l = length-set s at 0x2d in
       ap length w ∙ length-written (set s at 0x2d) (at + 1) (figures count n) (omega (arith, length-figures count n)) ∙ l
 

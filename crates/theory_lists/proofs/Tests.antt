@@ -100,12 +100,6 @@ module _ (v : ℕ) (s : List ℕ) where
         stands = getD-take i s (m .place) 0 (omega arith) ∙ sym (getD-take j s (m .place) 0 l) ∙ m .stands;
       })
 
-  front-has : (i : ℕ) → Has v (take i s) → Has v s
-  front-has i m =
-      let l : length (take i s) ≤ i = omega (arith, length-take i s) in
-      let n : length (take i s) ≤ length s = omega (arith, length-take i s) in
-      record { place = m .place; inside = omega (arith, m .inside); stands = sym (getD-take i s (m .place) 0 (omega (arith, m .inside))) ∙ m .stands }
-
   pub has-rest : (ok : Bool) (i : ℕ) → i ≤ length s → (Has v (take i s) → ⊥) → Says ok (Has v (part i (length s) s)) → Says ok (Has v s)
   has-rest ok i h n =
       says-alike ok (has-in-part i (length s))

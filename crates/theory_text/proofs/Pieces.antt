@@ -6,7 +6,7 @@ use native.Mathlib.Omega.{arith}
 use lib.ListN.{length, take, drop, length-append, take-append-drop}
 use lib.Seq.{take-add, take-at, length-take-le}
 use Rattle.theory_text.specs.Scalar.{Scalar, form}
-use Rattle.theory_text.specs.Text.{Scalars, encode, Valid}
+use Rattle.theory_text.specs.Text.{encode, Valid}
 use Rattle.theory_text.specs.Table.{first}
 use Rattle.theory_text.specs.Reading.{decoded, scalars, rest, validTo, ReadFrom}
 use Rattle.theory_text.proofs.Sizes.{length-form}
@@ -20,10 +20,6 @@ encode-append (c ∷ cs) ds = rw (encode-append cs ds, append-assoc)
 
 pub encode-push : (cs : List ℕ) (c : ℕ) → encode (cs ++ c ∷ []) ≡ encode cs ++ form c
 encode-push cs c = encode-append cs (c ∷ []) ∙ ap (λ (l : List ℕ). encode cs ++ l) (append-nil (form c))
-
-pub scalars-append : (cs ds : List ℕ) → Scalars cs → Scalars ds → Scalars (cs ++ ds)
-scalars-append [] ds s t = t
-scalars-append (c ∷ cs) ds s t = (s .0, scalars-append cs ds (s .1) t)
 
 -- ---- reading in pieces
 module _ (t u : List ℕ) where

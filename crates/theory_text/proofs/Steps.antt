@@ -85,10 +85,6 @@ scalars-step (b ∷ bs) h = go (first (b ∷ bs)) refl h
 pub rest-next : (s : List ℕ) (at : ℕ) → 0 < first (drop at s) → rest (drop (at + first (drop at s)) s) ≡ rest (drop at s)
 rest-next s at h = rw (← drop-drop (first (drop at s)) at s) (sym (rest-step (drop at s) h))
 
-pub scalars-next : (s : List ℕ) (at : ℕ) → 0 < first (drop at s)
-    → scalars (drop at s) ≡ decoded (first (drop at s)) (drop at s) ∷ scalars (drop (at + first (drop at s)) s)
-scalars-next s at h = rw (← drop-drop (first (drop at s)) at s) (scalars-step (drop at s) h)
-
 pub next-within : (s : List ℕ) (at : ℕ) → at ≤ length s → at + first (drop at s) ≤ length s
 next-within s at h = omega (arith, first-within (drop at s), length-drop at s)
 

@@ -2,8 +2,8 @@
 use mathlib.Core.Path.{_≡_, refl}
 use mathlib.Core.Bool.{Bool, true, false, cond}
 use Prim.Native.Nat.{ℕ, _<_, _≤_}
-use lib.Dec.{ltb, leb, eqb}
-use borrow.Author.Tests.{ltb-true, ltb-false, leb-true, leb-false, eqb-true, eqb-false}
+use lib.Dec.{ltb, leb}
+use borrow.Author.Tests.{ltb-true, ltb-false, leb-true, leb-false}
 use Rattle.theory_whole.proofs.Cases.{by-test, never}
 use Rattle.theory_lists.specs.Bounds.{between}
 use Rattle.theory_lists.proofs.Between.{is-between, bounds-of}
@@ -16,12 +16,6 @@ module _ {A : Type 0} (P : A → Type 0) where
   module _ (m n : ℕ) {x y : A} where
     pub by-ltb : (m < n → P x) → (n ≤ m → P y) → P (cond (ltb m n) x y)
     by-ltb f g = by-cond (ltb m n) (λ e. f (ltb-true m n e)) (λ e. g (ltb-false m n e))
-
-    pub by-leb : (m ≤ n → P x) → (n < m → P y) → P (cond (leb m n) x y)
-    by-leb f g = by-cond (leb m n) (λ e. f (leb-true m n e)) (λ e. g (leb-false m n e))
-
-    pub by-eqb : (m ≡ n → P x) → ((m ≡ n → ⊥) → P y) → P (cond (eqb m n) x y)
-    by-eqb f g = by-cond (eqb m n) (λ e. f (eqb-true m n e)) (λ e. g (eqb-false m n e))
 
 -- where the byte is known to be no smaller
 module _ (l h b : ℕ) where
