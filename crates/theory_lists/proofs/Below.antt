@@ -80,19 +80,23 @@ module _ (b : ℕ) (s : List ℕ) where
       let e : take n s ≡ take i s ++ part i n s = ap (λ (k : ℕ). take k s) (sym m) ∙ take-add i (n - i) s in
       rw e (below-append b (take i s) (part i n s) x y)
 
-  pub says-below-next : (ok : Bool) (i : ℕ) → i < length s → Says ok (AllBelow b (take i s)) → Says (ok && ltb (getD s i 0) b) (AllBelow b (take (i + 1) s))
+  pub says-below-next : (ok : Bool) (i : ℕ) → i < length s
+      → Says ok (AllBelow b (take i s)) → Says (ok && ltb (getD s i 0) b) (AllBelow b (take (i + 1) s))
   unfolding AllBelow
   says-below-next ok i h k =
       let x = getD s i 0 in
       rw (add-one, take-suc s i 0 h)
-      (says-alike (ok && ltb x b) (λ p. below-append b (take i s) (x ∷ []) (p .0) (p .1, tt)) (λ a. let r = below-parts b (take i s) (x ∷ []) a in (r .0, r .1 .0))
+      (says-alike (ok && ltb x b) (λ p. below-append b (take i s) (x ∷ []) (p .0) (p .1, tt))
+      (λ a. let r = below-parts b (take i s) (x ∷ []) a in (r .0, r .1 .0))
       (says-both ok (ltb x b) (AllBelow b (take i s)) (x < b) k (says-less x b)))
 
   pub says-below-whole : (ok : Bool) (i : ℕ) → length s ≤ i → Says ok (AllBelow b (take i s)) → Says ok (AllBelow b s)
   says-below-whole ok i h k = rw (take-all i s h) at k
 
-  pub says-below-rest : (ok : Bool) (i last : ℕ) → last ≤ i → AllBelow b (take i s) → Says ok (AllBelow b (part last (length s) s)) → Says ok (AllBelow b s)
+  pub says-below-rest : (ok : Bool) (i last : ℕ) → last ≤ i → AllBelow b (take i s)
+      → Says ok (AllBelow b (part last (length s) s)) → Says ok (AllBelow b s)
   says-below-rest ok i last h r =
       says-alike ok
-      (λ a. rw (take-append-drop last s) at (below-append b (take last s) (drop last s) (rw (take-take last i s h) at (below-take b last (take i s) r)) (rw (part-rest last s) at a)))
+      (λ a. rw (take-append-drop last s) at
+      (below-append b (take last s) (drop last s) (rw (take-take last i s h) at (below-take b last (take i s) r)) (rw (part-rest last s) at a)))
       (part-below last (length s))

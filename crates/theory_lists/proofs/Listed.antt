@@ -20,7 +20,8 @@ pub says-listed : (xs : List ℕ) (v : ℕ) → Says (listed xs v) (Has v xs)
 says-listed [] v = λ h. omega (arith, h .inside)
 says-listed (x ∷ xs) v =
     says-alike (eqb v x || listed xs v)
-    (λ p. ⊎-elim (λ e. record { place = 0; inside = omega arith; stands = sym e }) (λ h. record { place = suc (h .place); inside = omega (arith, h .inside); stands = h .stands }) p)
+    (λ p. ⊎-elim (λ e. record { place = 0; inside = omega arith; stands = sym e })
+    (λ h. record { place = suc (h .place); inside = omega (arith, h .inside); stands = h .stands }) p)
     (λ h. first-or-later (h .place) (h .inside) (h .stands))
     (says-either (eqb v x) (listed xs v) (v ≡ x) (Has v xs) (says-equal v x) (says-listed xs v))
   where

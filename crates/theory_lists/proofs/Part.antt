@@ -1,4 +1,4 @@
--- Parts: by index, and one after another.
+-- Parts: their ends, by index, and one after another.
 use mathlib.Core.Path.{_≡_, sym, ap, _∙_}
 use mathlib.Core.Bool.{true, false, _&&_}
 use mathlib.Core.List.{List, [], _∷_, _++_}

@@ -144,5 +144,6 @@ module _ (s : List ℕ) (at : ℕ) (new : List ℕ) (fits : at + length new ≤ 
       (take-take (t - f) (at - f) (drop f s) (omega arith))
 
 -- two writers of the same elements, at the same place of the same list, answer alike and leave the same
-pub pinned-writes : {ok ok′ : Bool} (before : List ℕ) (at : ℕ) (new : List ℕ) {after after′ : List ℕ} → Writes ok before at new after → Writes ok′ before at new after′ → (ok ≡ ok′) × (after ≡ after′)
+pub pinned-writes : {ok ok′ : Bool} (before : List ℕ) (at : ℕ) (new : List ℕ) {after after′ : List ℕ}
+    → Writes ok before at new after → Writes ok′ before at new after′ → (ok ≡ ok′) × (after ≡ after′)
 pinned-writes before at new w w′ = outcome-pinned w w′ (λ e e′. e ∙ sym e′) (λ e e′. e ∙ sym e′)
