@@ -1,7 +1,7 @@
 // Numbers as decimal text, of which vstd promises nothing: each function's contract is that of the operation itself, and its body a call of it.
 ghost use lib.IntN.{pos};
 ghost use Rattle.theory_whole.specs.Kind.{unsigned, signed};
-ghost use Rattle.theory_whole.specs.Fit.{Answers};
+ghost use Rattle.theory_answers.specs.Answer.{Answers};
 ghost use Rattle.theory_decimal.specs.Written as text;
 ghost use Rattle.theory_decimal.specs.Read as said;
 

@@ -1,7 +1,7 @@
 // What vstd promises of i32, kept: each function's contract is vstd's clause (vstd_integers, specs/Signed.antt and specs/Compare.antt), and its body a call of ours.
 ghost use mathlib.Core.Path.{_≡_};
 ghost use lib.IntN.{pos};
-ghost use Rattle.theory_whole.specs.Fit.{Answers, value};
+ghost use Rattle.theory_answers.specs.Answer.{Answers, answered};
 ghost use Rattle.theory_whole.specs.Order.{numbered};
 ghost use Rattle.vstd_integers.specs.Signed.{wrapping-add, wrapping-add-unsigned, wrapping-sub, wrapping-mul, wrapping-shl, wrapping-shr, checked-add, checked-add-unsigned, checked-sub, checked-sub-unsigned, checked-mul, checked-div, checked-div-euclid, checked-rem, checked-rem-euclid};
 ghost use Rattle.vstd_integers.specs.Compare.{clone, eq, ne, cmp, lt, le, gt, ge};
@@ -169,7 +169,7 @@ pub extern "C" fn pb_i32_cmp(x: i32, y: i32) -> i8
 
 #[no_mangle]
 pub extern "C" fn pb_i32_partial_cmp(x: i32, y: i32) -> ordering::PartialOrdering
-    ensures { λ r. ⌜ Answers (r .ok) (r .value) (value (numbered (cmp x y))) ⌝ }
+    ensures { λ r. ⌜ Answers (r .ok) (r .value) (answered (numbered (cmp x y))) ⌝ }
 {
     ordering::PartialOrdering {
         ok: true,

@@ -3,7 +3,7 @@ ghost use mathlib.Core.Path.{_≡_};
 ghost use mathlib.Core.Bool.{true};
 ghost use Prim.Native.Nat.{_+_, _≤_, _<_};
 ghost use lib.ListN.{length, take, drop};
-ghost use Rattle.theory_lists.specs.Says.{Says};
+ghost use Rattle.theory_answers.specs.Says.{Says};
 ghost use Rattle.theory_lists.specs.Part.{part, Within};
 ghost use Rattle.theory_lists.specs.Written.{written};
 ghost use Rattle.theory_text.specs.Reading.{validTo};

@@ -1,7 +1,7 @@
 // What vstd promises of u64, kept: each function's contract is vstd's clause (vstd_integers, specs/Unsigned.antt and specs/Compare.antt), and its body a call of ours.
 ghost use mathlib.Core.Path.{_≡_};
 ghost use lib.IntN.{pos};
-ghost use Rattle.theory_whole.specs.Fit.{Answers, value};
+ghost use Rattle.theory_answers.specs.Answer.{Answers, answered};
 ghost use Rattle.theory_whole.specs.Order.{numbered};
 ghost use Rattle.vstd_integers.specs.Unsigned.{wrapping-add, wrapping-add-signed, wrapping-sub, wrapping-mul, wrapping-shl, wrapping-shr, checked-add, checked-add-signed, checked-sub, checked-mul, checked-next-multiple-of, checked-div, checked-rem, saturating-add, saturating-sub, saturating-mul, is-multiple-of};
 ghost use Rattle.vstd_integers.specs.Compare.{clone, eq, ne, cmp, lt, le, gt, ge};
@@ -197,7 +197,7 @@ pub extern "C" fn pb_u64_cmp(x: u64, y: u64) -> i8
 
 #[no_mangle]
 pub extern "C" fn pb_u64_partial_cmp(x: u64, y: u64) -> ordering::PartialOrdering
-    ensures { λ r. ⌜ Answers (r .ok) (r .value) (value (numbered (cmp (pos x) (pos y)))) ⌝ }
+    ensures { λ r. ⌜ Answers (r .ok) (r .value) (answered (numbered (cmp (pos x) (pos y)))) ⌝ }
 {
     ordering::PartialOrdering {
         ok: true,

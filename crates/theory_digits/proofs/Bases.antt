@@ -7,10 +7,12 @@ use native.Mathlib.Omega.{arith}
 use lib.ListN.{length, length-append, length-reverse}
 use lib.Pow.{pow-add}
 use lib.Seq.{take-at, drop-at, take-length}
-use Rattle.theory_digits.specs.Digits.{digits, value, AllBelow, valueHigh}
-use Rattle.theory_digits.specs.Bases.{pieces, larger, smaller, largerHigh, smallerHigh}
+use Rattle.theory_lists.specs.Bounds.{AllBelow}
+use Rattle.theory_lists.proofs.Below.{below-append, below-reverse}
+use Rattle.theory_lists.specs.Pieces.{first-pieces}
+use Rattle.theory_digits.specs.Digits.{digits, value, valueHigh}
+use Rattle.theory_digits.specs.Bases.{larger, smaller, largerHigh, smallerHigh}
 use Rattle.theory_digits.proofs.Digits.{length-digits, digits-below, value-below, value-of-lowest, value-of-digits, digits-of-value, value-injective, digits-append, value-append}
-use Rattle.theory_digits.proofs.High.{below-append, below-reverse}
 
 -- the larger base, to the power m, is the smaller one to the power m * k
 pub power-of-power : (b m k : ℕ) → (b ^ k) ^ m ≡ b ^ (m * k)
@@ -31,7 +33,7 @@ some-make-one {s} {t} some l = le-div-iff-mul-le {k = s} {x = 1} {y = t} some .1
 -- ---- of the digits of a number
 
 pub larger-of-digits : (b m k n : ℕ) → 0 < b → larger b m k (digits b (m * k) n) ≡ digits (b ^ k) m n
-unfolding larger pieces digits
+unfolding larger first-pieces digits
 larger-of-digits b zero k n p = refl
 larger-of-digits b (suc m) k n p =
     let s : digits b (suc m * k) n ≡ digits b k n ++ digits b (m * k) (n / b ^ k) = rw (suc-mul, add-comm) (digits-append b k (m * k) n) in
@@ -101,7 +103,7 @@ smaller-injective b k p some ds es h g e =
 
 -- digits that make a single one
 pub larger-one : (b : ℕ) (ds : List ℕ) → larger b 1 (length ds) ds ≡ value b ds ∷ []
-unfolding larger pieces
+unfolding larger first-pieces
 larger-one b ds = rw take-length
 
 -- ---- highest first

@@ -5,9 +5,12 @@ use mathlib.Core.List.{List, [], _∷_, _++_, reverse, reverse-cons, reverse-app
 use Prim.Native.Nat.{ℕ, suc, _*_, _^_, _<_}
 use lib.ListN.{length, length-reverse}
 use lib.Seq.{take-at, drop-at}
-use Rattle.theory_digits.specs.Digits.{AllBelow, digitsHigh, valueHigh}
-use Rattle.theory_digits.specs.Bases.{pieces, larger, smaller, largerHigh, smallerHigh}
-use Rattle.theory_digits.proofs.High.{below-reverse, reverse-injective}
+use Rattle.theory_lists.specs.Bounds.{AllBelow}
+use Rattle.theory_lists.proofs.Below.{below-reverse}
+use Rattle.theory_lists.specs.Pieces.{first-pieces}
+use Rattle.theory_digits.specs.Digits.{digitsHigh, valueHigh}
+use Rattle.theory_digits.specs.Bases.{larger, smaller, largerHigh, smallerHigh}
+use Rattle.theory_digits.proofs.High.{reverse-injective}
 use Rattle.theory_digits.proofs.Bases.{smaller-below, larger-injective, smaller-injective, larger-one}
 
 pub smallerHigh-below : (b k : ℕ) (ds : List ℕ) → 0 < b → AllBelow b (smallerHigh b k ds)
@@ -37,7 +40,7 @@ unfolding smaller
 smallerHigh-push-lowest b k d ds = rw (reverse-append, reverse-append)
 
 pub largerHigh-push-lowest : (b m : ℕ) (ds es : List ℕ) → largerHigh b (suc m) (length es) (ds ++ es) ≡ largerHigh b m (length es) ds ++ (valueHigh b es ∷ [])
-unfolding larger pieces
+unfolding larger first-pieces
 largerHigh-push-lowest b m ds es =
     rw (reverse-append, take-at (reverse es) (reverse ds) (length es) (length-reverse es), drop-at (reverse es) (reverse ds) (length es) (length-reverse es))
     (reverse-cons (valueHigh b es) (larger b m (length es) (reverse ds)))

@@ -40,7 +40,7 @@ module _ (d w x t : ℕ) (h : d < 2) (b : x < 2 ^ w) where
       simp (e, pow-zero, div-one) at s))
       next s
 
--- of ones at the low end `before` says `within` too: above the w digits there are only zeros
+-- of ones at the low end `before` says `at-most` too: above the w digits there are only zeros
 pub trailing-ones-by-two : (w x t : ℕ) → x < 2 ^ w → LowNext 1 w x t → LowBefore 1 w x t → t ≡ trailing 1 w x
 trailing-ones-by-two w x t b next before =
     let no-more : w < t → ⊥ = λ l.

@@ -9,7 +9,6 @@ pub mod Bits
 pub mod Ends
 pub mod Counting
 pub mod Reading
-pub mod Writing
 pub mod Facts
 pub mod Enough
 pub mod TooFew

@@ -4,9 +4,10 @@ use mathlib.Core.List.{List, [], _∷_, _++_}
 use Prim.Native.Nat.{ℕ, _-_, _*_, _+_, _/_, _%_, _^_, _<_}
 use lib.Arith.{digits-div, digits-mod}
 use lib.ListN.{length, take, drop, length-drop, take-append-drop}
-use Rattle.theory_digits.specs.Digits.{AllBelow, valueHigh}
+use Rattle.theory_lists.specs.Bounds.{AllBelow}
+use Rattle.theory_lists.proofs.Below.{below-drop}
+use Rattle.theory_digits.specs.Digits.{valueHigh}
 use Rattle.theory_digits.proofs.Digits.{lowest-of}
-use Rattle.theory_digits.proofs.Parts.{below-drop}
 use Rattle.theory_digits.proofs.High.{valueHigh-below, valueHigh-append, valueHigh-push-lowest, valueHigh-push-highest}
 
 pub lowest-digitHigh : {b d : ℕ} (ds : List ℕ) → d < b → valueHigh b (ds ++ (d ∷ [])) % b ≡ d

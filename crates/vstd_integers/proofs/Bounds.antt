@@ -6,12 +6,13 @@ use native.Mathlib.Omega.{arith}
 use lib.IntN.{ℤ, pos, _+ℤ_, _-ℤ_}
 use lib.Signed.{ltZ}
 use Rattle.theory_whole.specs.Kind.{Kind, least, greatest}
-use Rattle.theory_whole.specs.Fit.{fits, wrap, clamp, refused, value, refuse}
+use Rattle.theory_answers.specs.Answer.{refused, answered}
+use Rattle.theory_whole.specs.Fit.{fits, wrap, clamp, refuse}
 use Rattle.theory_whole.proofs.Cases.{by-test}
 use Rattle.theory_whole.proofs.Halves.{up, down, up-neg, down-neg, sum, difference, lt-yes, lt-no, not-lt}
 use Rattle.theory_whole.proofs.Fits.{Real, under, over, in-fits, out-not-fits}
 use Rattle.theory_whole.proofs.Wrap.{wrap-same, wrap-over, wrap-under}
-use Rattle.theory_whole.proofs.Refuse.{only-if-so, only-if-not}
+use Rattle.theory_answers.proofs.Answer.{only-if-so, only-if-not}
 
 module _ {k : Kind} (real : Real k) (z : ℤ) where
   pub above-max : ltZ (greatest k) z ≡ true → k .size + down z ≤ up z + k .low
@@ -34,19 +35,19 @@ module _ {k : Kind} (real : Real k) (z : ℤ) where
   not-below h = let u = up-neg (pos (k .low)) in let d = down-neg (pos (k .low)) in not-lt z (least k) (omega arith)
 
   -- ---- refuse
-  pub refuse-by-bounds : refuse k z ≡ cond (ltZ (greatest k) z || ltZ z (least k)) refused (value z)
+  pub refuse-by-bounds : refuse k z ≡ cond (ltZ (greatest k) z || ltZ z (least k)) refused (answered z)
   unfolding refuse
   refuse-by-bounds =
       by-test (ltZ (greatest k) z)
-      (λ a. rw (a, only-if-not (fits k z) (value z) (out-not-fits real z (over (above-max a)))))
+      (λ a. rw (a, only-if-not (fits k z) (answered z) (out-not-fits real z (over (above-max a)))))
       (λ a. by-test (ltZ z (least k))
-      (λ b. rw (a, b, only-if-not (fits k z) (value z) (out-not-fits real z (under (below-min b)))))
-      (λ b. rw (a, b, only-if-so (fits k z) (value z) (in-fits real z (record { above = at-least-min b; below = at-most-max a })))))
+      (λ b. rw (a, b, only-if-not (fits k z) (answered z) (out-not-fits real z (under (below-min b)))))
+      (λ b. rw (a, b, only-if-so (fits k z) (answered z) (in-fits real z (record { above = at-least-min b; below = at-most-max a })))))
 
-  pub refuse-by-max : down z ≤ k .low + up z → refuse k z ≡ cond (ltZ (greatest k) z) refused (value z)
+  pub refuse-by-max : down z ≤ k .low + up z → refuse k z ≡ cond (ltZ (greatest k) z) refused (answered z)
   refuse-by-max h = refuse-by-bounds ∙ by-test (ltZ (greatest k) z) (λ a. rw a) (λ a. rw (a, not-below h))
 
-  pub refuse-by-min : up z + k .low < k .size + down z → refuse k z ≡ cond (ltZ z (least k)) refused (value z)
+  pub refuse-by-min : up z + k .low < k .size + down z → refuse k z ≡ cond (ltZ z (least k)) refused (answered z)
   refuse-by-min h = refuse-by-bounds ∙ rw (not-above h)
 
   -- ---- clamp

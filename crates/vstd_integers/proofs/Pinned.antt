@@ -4,8 +4,8 @@ use mathlib.Core.Path.{_≡_, sym, ap, _∙_}
 use mathlib.Core.Bool.{Bool}
 use Prim.Native.Nat.{ℕ}
 use lib.IntN.{ℤ, pos, natAbs}
-use Rattle.theory_whole.specs.Fit.{Answer, Answers}
-use Rattle.theory_whole.proofs.Refuse.{pinned-answer}
+use Rattle.theory_answers.specs.Answer.{Answer, Answers}
+use Rattle.theory_answers.proofs.Answer.{pinned-answer}
 
 pub pinned-equation : {A : Type 0} {r s v : A} → r ≡ v → s ≡ v → r ≡ s
 pinned-equation p q = p ∙ sym q

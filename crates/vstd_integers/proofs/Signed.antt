@@ -8,8 +8,10 @@ use lib.Pow.{pow-pos}
 use lib.IntN.{ℤ, pos, negsuc, _+ℤ_, _-ℤ_, _*ℤ_}
 use lib.Signed.{ltZ, quotZ, remZ}
 use Rattle.theory_whole.specs.Kind.{signed, least, greatest}
-use Rattle.theory_whole.specs.Division.{_modulo_, ediv, emod, isZero}
-use Rattle.theory_whole.specs.Fit.{fits, wrap, refused, value, refuse, divided, only-if}
+use Rattle.theory_whole.specs.Division.{_modulo_, ediv, emod}
+use Rattle.theory_whole.specs.Order.{eqZ}
+use Rattle.theory_answers.specs.Answer.{refused, answered, only-if}
+use Rattle.theory_whole.specs.Fit.{fits, wrap, refuse, divided}
 use Rattle.theory_whole.specs.Order.{eqZ}
 use Rattle.theory_whole.proofs.Cases.{by-test, never}
 use Rattle.theory_whole.proofs.Halves.{down, by-halves, up-neg, down-neg, sum, difference}
@@ -103,7 +105,7 @@ module _ (w : ℕ) (some : 0 < w) where
         to (negsuc a) i m = let l = div-le-self a m in sym (wrap-same (real-signed w) (negsuc (a / m)) (record { above = omega (arith, i .above); below = omega (arith, pow-pos w) }))
 
   -- ---- divisions: refused exactly for divisor 0, and for MIN by -1
-  zero-is : (y : ℤ) → isZero y ≡ eqZ y (pos 0)
+  zero-is : (y : ℤ) → eqZ y (pos 0) ≡ eqZ y (pos 0)
   zero-is (pos a) = refl
   zero-is (negsuc a) = refl
 
@@ -136,7 +138,7 @@ module _ (w : ℕ) (some : 0 < w) where
     unfolding divided only-if divided-unless
     divided-kept q v e = rw (e, quotient-fits, zero-is y) (turned (eqZ y (pos 0)) (eqZ x (least (signed w)) && eqZ y (negsuc 0)))
       where
-        turned : (s t : Bool) → cond (not s && not t) (value v) refused ≡ cond (s || t) refused (value v)
+        turned : (s t : Bool) → cond (not s && not t) (answered v) refused ≡ cond (s || t) refused (answered v)
         turned true t = refl
         turned false true = refl
         turned false false = refl

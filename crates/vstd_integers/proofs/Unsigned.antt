@@ -9,8 +9,10 @@ use lib.IntN.{ℤ, pos, _+ℤ_, _-ℤ_, _*ℤ_}
 use lib.Signed.{quotZ, remZ}
 use borrow.Author.Tests.{eqb-true, eqb-false}
 use Rattle.theory_whole.specs.Kind.{unsigned, signed}
-use Rattle.theory_whole.specs.Division.{_modulo_, ediv, emod, isZero}
-use Rattle.theory_whole.specs.Fit.{wrap, clamp, refused, value, refuse, divided, only-if}
+use Rattle.theory_whole.specs.Division.{_modulo_, ediv, emod}
+use Rattle.theory_whole.specs.Order.{eqZ}
+use Rattle.theory_answers.specs.Answer.{refused, answered, only-if}
+use Rattle.theory_whole.specs.Fit.{wrap, clamp, refuse, divided}
 use Rattle.theory_whole.specs.Multiple.{isMultiple, nextMultiple}
 use Rattle.theory_whole.specs.Order.{eqZ}
 use Rattle.theory_whole.proofs.Cases.{by-test}
@@ -47,7 +49,7 @@ module _ (w : ℕ) {a b : ℕ} (i : a < 2 ^ w) (j : b < 2 ^ w) where
   unfolding checked-mul
   checked-mul-kept = refuse-by-max (real-unsigned w) (pos (a * b)) (omega arith)
 
-  divided-kept : (v : ℤ) → divided (unsigned w) (pos b) (pos (a / b)) v ≡ cond (eqZ (pos b) (pos 0)) refused (value v)
+  divided-kept : (v : ℤ) → divided (unsigned w) (pos b) (pos (a / b)) v ≡ cond (eqZ (pos b) (pos 0)) refused (answered v)
   divided-kept v =
       by-test (eqb b 0)
       (λ e. rw e (divided-by-zero (unsigned w) (pos b) (pos (a / b)) v e))
@@ -117,7 +119,7 @@ module _ (a b : ℕ) where
       (λ e. rw e)
       (λ e. let d : pos (b - a % b) ≡ pos b -ℤ pos (a % b) = difference-is (omega arith) in rw (e, ← d))
 
-pub checked-next-multiple-of-kept : (w : ℕ) {a b : ℕ} → a < 2 ^ w → b < 2 ^ w → only-if (not (isZero (pos b))) (refuse (unsigned w) (pos (nextMultiple a b))) ≡ checked-next-multiple-of w (pos a) (pos b)
+pub checked-next-multiple-of-kept : (w : ℕ) {a b : ℕ} → a < 2 ^ w → b < 2 ^ w → only-if (not (eqZ (pos b) (pos 0))) (refuse (unsigned w) (pos (nextMultiple a b))) ≡ checked-next-multiple-of w (pos a) (pos b)
 unfolding checked-next-multiple-of only-if
 checked-next-multiple-of-kept w {a} {b} i j =
     by-test (eqb b 0)

@@ -7,7 +7,7 @@ use lib.Signed.{ltZ, quotZ, remZ}
 use mathlib.Core.Bool.{_&&_, _||_, cond}
 use Rattle.theory_whole.specs.Kind.{signed, least, greatest}
 use Rattle.theory_whole.specs.Division.{ediv, emod}
-use Rattle.theory_whole.specs.Fit.{Answer, refused, value}
+use Rattle.theory_answers.specs.Answer.{Answer, refused, answered}
 use Rattle.theory_whole.specs.Order.{eqZ}
 
 abbrev MAX : ℕ → ℤ
@@ -45,23 +45,23 @@ wrapping-shr w x shift = ediv x (pos (2 ^ (shift % w)))
 -- ---- num.rs
 
 unfoldable pub checked-add : ℕ → ℤ → ℤ → Answer
-checked-add w x y = cond (ltZ (MAX w) (x +ℤ y) || ltZ (x +ℤ y) (MIN w)) refused (value (x +ℤ y))
+checked-add w x y = cond (ltZ (MAX w) (x +ℤ y) || ltZ (x +ℤ y) (MIN w)) refused (answered (x +ℤ y))
 
 unfoldable pub checked-add-unsigned : ℕ → ℤ → ℤ → Answer
-checked-add-unsigned w x y = cond (ltZ (MAX w) (x +ℤ y)) refused (value (x +ℤ y))
+checked-add-unsigned w x y = cond (ltZ (MAX w) (x +ℤ y)) refused (answered (x +ℤ y))
 
 unfoldable pub checked-sub : ℕ → ℤ → ℤ → Answer
-checked-sub w x y = cond (ltZ (MAX w) (x -ℤ y) || ltZ (x -ℤ y) (MIN w)) refused (value (x -ℤ y))
+checked-sub w x y = cond (ltZ (MAX w) (x -ℤ y) || ltZ (x -ℤ y) (MIN w)) refused (answered (x -ℤ y))
 
 unfoldable pub checked-sub-unsigned : ℕ → ℤ → ℤ → Answer
-checked-sub-unsigned w x y = cond (ltZ (x -ℤ y) (MIN w)) refused (value (x -ℤ y))
+checked-sub-unsigned w x y = cond (ltZ (x -ℤ y) (MIN w)) refused (answered (x -ℤ y))
 
 unfoldable pub checked-mul : ℕ → ℤ → ℤ → Answer
-checked-mul w x y = cond (ltZ (MAX w) (x *ℤ y) || ltZ (x *ℤ y) (MIN w)) refused (value (x *ℤ y))
+checked-mul w x y = cond (ltZ (MAX w) (x *ℤ y) || ltZ (x *ℤ y) (MIN w)) refused (answered (x *ℤ y))
 
 -- the condition of the four divisions, and what they answer otherwise
 unfoldable pub divided-unless : ℕ → ℤ → ℤ → ℤ → Answer
-divided-unless w lhs rhs v = cond (eqZ rhs (pos 0) || (eqZ lhs (MIN w) && eqZ rhs (negsuc 0))) refused (value v)
+divided-unless w lhs rhs v = cond (eqZ rhs (pos 0) || (eqZ lhs (MIN w) && eqZ rhs (negsuc 0))) refused (answered v)
 
 abbrev pub checked-div : ℕ → ℤ → ℤ → Answer
 checked-div w lhs rhs = divided-unless w lhs rhs (quotZ lhs rhs)

@@ -6,7 +6,7 @@ use lib.Signed.{ltZ}
 use mathlib.Core.Bool.{Bool, _||_, cond}
 use Rattle.theory_whole.specs.Kind.{unsigned, least, greatest}
 use Rattle.theory_whole.specs.Division.{ediv, emod}
-use Rattle.theory_whole.specs.Fit.{Answer, refused, value}
+use Rattle.theory_answers.specs.Answer.{Answer, refused, answered}
 use Rattle.theory_whole.specs.Order.{eqZ}
 
 abbrev MAX : ℕ → ℤ
@@ -44,28 +44,28 @@ unfoldable pub next-multiple-of : ℤ → ℤ → ℤ
 next-multiple-of x y = cond (eqZ (emod x y) (pos 0)) x (x +ℤ (y -ℤ emod x y))
 
 unfoldable pub checked-add : ℕ → ℤ → ℤ → Answer
-checked-add w x y = cond (ltZ (MAX w) (x +ℤ y)) refused (value (x +ℤ y))
+checked-add w x y = cond (ltZ (MAX w) (x +ℤ y)) refused (answered (x +ℤ y))
 
 unfoldable pub checked-add-signed : ℕ → ℤ → ℤ → Answer
-checked-add-signed w x y = cond (ltZ (MAX w) (x +ℤ y) || ltZ (x +ℤ y) (pos 0)) refused (value (x +ℤ y))
+checked-add-signed w x y = cond (ltZ (MAX w) (x +ℤ y) || ltZ (x +ℤ y) (pos 0)) refused (answered (x +ℤ y))
 
 unfoldable pub checked-sub : ℕ → ℤ → ℤ → Answer
-checked-sub w x y = cond (ltZ (x -ℤ y) (pos 0)) refused (value (x -ℤ y))
+checked-sub w x y = cond (ltZ (x -ℤ y) (pos 0)) refused (answered (x -ℤ y))
 
 unfoldable pub checked-mul : ℕ → ℤ → ℤ → Answer
-checked-mul w x y = cond (ltZ (MAX w) (x *ℤ y)) refused (value (x *ℤ y))
+checked-mul w x y = cond (ltZ (MAX w) (x *ℤ y)) refused (answered (x *ℤ y))
 
 unfoldable pub checked-next-multiple-of : ℕ → ℤ → ℤ → Answer
 checked-next-multiple-of w x rhs =
-    cond (eqZ rhs (pos 0)) refused (cond (ltZ (MAX w) (next-multiple-of x rhs)) refused (value (next-multiple-of x rhs)))
+    cond (eqZ rhs (pos 0)) refused (cond (ltZ (MAX w) (next-multiple-of x rhs)) refused (answered (next-multiple-of x rhs)))
 
 -- also the promise of checked_div_euclid
 unfoldable pub checked-div : ℕ → ℤ → ℤ → Answer
-checked-div w lhs rhs = cond (eqZ rhs (pos 0)) refused (value (ediv lhs rhs))
+checked-div w lhs rhs = cond (eqZ rhs (pos 0)) refused (answered (ediv lhs rhs))
 
 -- also the promise of checked_rem_euclid
 unfoldable pub checked-rem : ℕ → ℤ → ℤ → Answer
-checked-rem w lhs rhs = cond (eqZ rhs (pos 0)) refused (value (emod lhs rhs))
+checked-rem w lhs rhs = cond (eqZ rhs (pos 0)) refused (answered (emod lhs rhs))
 
 unfoldable pub saturating-add : ℕ → ℤ → ℤ → ℤ
 saturating-add w x y = cond (ltZ (MAX w) (x +ℤ y)) (MAX w) (x +ℤ y)

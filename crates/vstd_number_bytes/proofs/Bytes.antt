@@ -8,15 +8,16 @@ use lib.Bits.{bitOr, and-mask, or-shifted-r}
 use lib.Dec.{eqb}
 use lib.ListN.{length, getD, take}
 use borrow.Author.Tests.{eqb-true}
-use Rattle.theory_whole.specs.Fit.{only-if}
+use Rattle.theory_answers.specs.Answer.{only-if}
 use Rattle.theory_whole.proofs.Cases.{by-test}
-use Rattle.theory_digits.specs.Answers.{number}
+use Rattle.theory_lists.specs.Bounds.{AllBelow}
+use Rattle.theory_lists.proofs.Below.{all-below, below-take, below-at}
+use Rattle.theory_digits.specs.Number.{number}
 use lib.Pow.{shl-exact, shr-shr}
 use lib.Seq.{take-suc, take-all, length-take-le}
-use Rattle.theory_digits.specs.Digits.{digits, value, AllBelow}
+use Rattle.theory_digits.specs.Digits.{digits, value}
 use Rattle.theory_digits.proofs.Digits.{length-digits, digits-below, value-below, value-of-digits, digits-of-value}
-use Rattle.theory_digits.proofs.Reading.{below-each}
-use Rattle.theory_digits.proofs.Parts.{value-push-highest, below-take, below-at}
+use Rattle.theory_digits.proofs.Parts.{value-push-highest}
 use Rattle.theory_digits.proofs.Bases.{power-of-power}
 use Rattle.vstd_number_bytes.specs.Bytes.{masked-bytes, spec-to-le-bytes, joined-bytes, spec-from-le-bytes, from-le-bytes}
 
@@ -88,5 +89,5 @@ pub from-le-bytes-kept : (w count : ℕ) (s : List ℕ) → suc count * 8 ≤ w 
 unfolding number from-le-bytes only-if
 from-le-bytes-kept w count s fits bytes =
     by-test (eqb (length s) (suc count))
-    (λ e. rw (e, from-le-bytes-is w count fits s (below-each 256 s bytes) (eqb-true (length s) (suc count) e)))
+    (λ e. rw (e, from-le-bytes-is w count fits s (all-below 256 s (λ i _. bytes i)) (eqb-true (length s) (suc count) e)))
     (λ e. rw e)

@@ -3,7 +3,7 @@ use mathlib.Core.Path.{_≡_, refl}
 use mathlib.Core.List.{List, [], _∷_}
 use Prim.Native.Nat.{ℕ}
 use lib.IntN.{pos}
-use Rattle.theory_whole.specs.Fit.{refused, value, only-if}
+use Rattle.theory_answers.specs.Answer.{refused, answered, only-if}
 use Rattle.vstd_number_bytes.specs.Bytes.{masked-bytes, spec-to-le-bytes, joined-bytes, spec-from-le-bytes, from-le-bytes}
 
 abbrev eight : List ℕ
@@ -14,8 +14,8 @@ unfolding spec-to-le-bytes masked-bytes
 to-le-bytes-worked = (refl, refl)
 
 pub from-le-bytes-worked :
-    (from-le-bytes 64 7 eight ≡ value (pos 0x0102030405060708))
-    × (from-le-bytes 16 1 (0x80 ∷ 0xff ∷ []) ≡ value (pos 0xff80))
+    (from-le-bytes 64 7 eight ≡ answered (pos 0x0102030405060708))
+    × (from-le-bytes 16 1 (0x80 ∷ 0xff ∷ []) ≡ answered (pos 0xff80))
     × (from-le-bytes 16 1 (0x80 ∷ []) ≡ refused)
     × (from-le-bytes 16 1 (0x80 ∷ 0xff ∷ 0x00 ∷ []) ≡ refused)
 unfolding from-le-bytes spec-from-le-bytes joined-bytes only-if

@@ -5,7 +5,7 @@ use lib.Bits.{bitAnd, bitOr}
 use lib.Dec.{eqb}
 use lib.IntN.{pos}
 use lib.ListN.{length, getD}
-use Rattle.theory_whole.specs.Fit.{Answer, value, only-if}
+use Rattle.theory_answers.specs.Answer.{Answer, answered, only-if}
 
 -- (x >> 8 * i) & 0xff, for `count` places from i on
 unfoldable pub masked-bytes : ℕ → ℕ → ℕ → List ℕ
@@ -26,4 +26,4 @@ spec-from-le-bytes w count s = joined-bytes w s 1 count (getD s 0 0)
 
 -- what vstd demands, that there are just so many bytes, is refused otherwise
 unfoldable pub from-le-bytes : ℕ → ℕ → List ℕ → Answer
-from-le-bytes w count s = only-if (eqb (length s) (suc count)) (value (pos (spec-from-le-bytes w count s)))
+from-le-bytes w count s = only-if (eqb (length s) (suc count)) (answered (pos (spec-from-le-bytes w count s)))

@@ -5,12 +5,12 @@ use mathlib.Core.List.{List, _∷_}
 use Prim.Native.Nat.{ℕ, _+_, _-_, _≤_, _<_, min}
 use native.Mathlib.Decide.{decLt}
 use native.Mathlib.Omega.{arith}
-use lib.ListN.{length, getD, take, drop}
+use lib.ListN.{length, take, drop}
 use lib.Seq.{take-all}
-use Rattle.theory_lists.specs.Says.{Says}
+use Rattle.theory_answers.specs.Says.{Says}
 use Rattle.theory_lists.specs.Part.{part, Within, Has}
 use Rattle.theory_lists.specs.Pieces.{pieces}
-use Rattle.theory_lists.proofs.Says.{ok-where, refused-where}
+use Rattle.theory_answers.proofs.Says.{ok-where, refused-where}
 use Rattle.theory_lists.proofs.Part.{length-part, part-none, take-part, drop-part}
 use Rattle.theory_lists.proofs.Pieces.{pieces-next}
 use Rattle.vstd_slices.specs.Slices as vstd

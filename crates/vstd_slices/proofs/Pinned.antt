@@ -4,9 +4,9 @@ use mathlib.Core.Bool.{Bool}
 use mathlib.Core.List.{List}
 use Prim.Native.Nat.{ℕ}
 use lib.ListN.{length}
-use Rattle.theory_lists.specs.Says.{Says, Outcome}
+use Rattle.theory_answers.specs.Says.{Says, Outcome}
 use Rattle.theory_lists.specs.Part.{part, Has}
-use Rattle.theory_lists.proofs.Says.{pinned-says, outcome-pinned}
+use Rattle.theory_answers.proofs.Says.{pinned-says, outcome-pinned}
 use Rattle.vstd_slices.specs.Slices as vstd
 use Rattle.vstd_slices.specs.Promises as promise
 use Rattle.vstd_slices.proofs.Sequences.{updated-pinned, reversed-pinned}

@@ -1,14 +1,14 @@
 -- What the operations on slices answer is what their exports promise.
-use mathlib.Core.Path.{_≡_, sym, ap, _∙_}
+use mathlib.Core.Path.{_≡_, sym, _∙_}
 use mathlib.Core.Bool.{Bool, false}
 use mathlib.Core.List.{List, [], _∷_, reverse}
 use Prim.Native.Nat.{ℕ, _+_, _-_, _≤_, _<_, min}
 use native.Mathlib.Omega.{arith}
 use lib.ListN.{length, getD, take, drop, length-reverse}
-use Rattle.theory_lists.specs.Says.{Says, Outcome}
+use Rattle.theory_answers.specs.Says.{Says, Outcome}
 use Rattle.theory_lists.specs.Part.{part, Within}
 use Rattle.theory_lists.specs.Written.{written}
-use Rattle.theory_lists.proofs.Says.{outcome-alike}
+use Rattle.theory_answers.proofs.Says.{outcome-alike}
 use Rattle.theory_lists.proofs.Part.{length-part}
 use Rattle.vstd_slices.specs.Slices as vstd
 use Rattle.vstd_slices.specs.Promises.{Get, First, Last, Places, SubRange, SplitAt, SplitFirst, NextPiece, StartsWith, EndsWith, Equal, Set, Reverse, CopyFrom, CopyWithin}

@@ -6,8 +6,8 @@ use Prim.Native.Nat.{ℕ, _-_}
 use native.Mathlib.Omega.{arith}
 use lib.ListN.{length, getD, take, drop, length-take, length-drop}
 use lib.Seq.{ext-getD, getD-take, getD-drop, length-take-le}
-use Rattle.theory_lists.specs.Says.{Says}
-use Rattle.theory_lists.proofs.Says.{says-alike}
+use Rattle.theory_answers.specs.Says.{Says}
+use Rattle.theory_answers.proofs.Says.{says-alike}
 use Rattle.vstd_slices.specs.Slices.{StartsWith, EndsWith, SameElements}
 
 module _ (s needle : List ℕ) where

@@ -5,7 +5,7 @@ use mathlib.Core.Bool.{Bool, false}
 use mathlib.Core.List.{List}
 use Prim.Native.Nat.{ℕ, suc, _+_, _-_, _≤_, _<_, min}
 use lib.ListN.{length, getD}
-use Rattle.theory_lists.specs.Says.{Says, Outcome}
+use Rattle.theory_answers.specs.Says.{Says, Outcome}
 use Rattle.theory_lists.specs.Part.{part, Within, Has}
 use Rattle.vstd_slices.specs.Slices as vstd
 

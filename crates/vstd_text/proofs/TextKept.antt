@@ -1,20 +1,19 @@
 -- What the functions on text answer is what vstd's definitions say.
-use mathlib.Core.Path.{_≡_, refl, sym, ap, _∙_, subst}
+use mathlib.Core.Path.{_≡_, sym, ap, _∙_, subst}
 use mathlib.Core.Bool.{Bool, true, false}
 use mathlib.Core.List.{List, [], _∷_}
 use Prim.Native.Nat.{ℕ, _+_, _≤_, _<_}
 use native.Mathlib.Omega.{arith}
 use lib.ListN.{length, take, drop}
-use Rattle.theory_lists.specs.Says.{Says, Outcome}
+use Rattle.theory_answers.specs.Says.{Says, Outcome}
 use Rattle.theory_lists.specs.Part.{part, Within}
 use Rattle.theory_lists.specs.Written.{written}
-use Rattle.theory_lists.proofs.Says.{says-alike, ok-where}
+use Rattle.theory_answers.proofs.Says.{says-alike, ok-where}
 use Rattle.theory_lists.proofs.Part.{length-part}
 use Rattle.theory_text.specs.Scalar.{Scalar, len, form}
-use Rattle.theory_text.specs.Text.{Scalars, encode, Valid, Begins, Ends}
+use Rattle.theory_text.specs.Text.{Scalars, encode, Valid, Begins, Ends, ReadIs}
 use Rattle.theory_text.specs.Table.{first}
-use Rattle.theory_text.specs.Reading.{value, scalars}
-use Rattle.theory_text.specs.Answer.{ReadIs}
+use Rattle.theory_text.specs.Reading.{decoded, scalars}
 use Rattle.theory_text.specs.Boundary.{Boundary, Splits}
 use Rattle.theory_text.specs.Ascii.{Ascii}
 use Rattle.theory_text.proofs.Steps.{first-len}
@@ -54,8 +53,8 @@ module _ {f t : ℕ} {s : List ℕ} (w : Within f t s) (ok : Bool) (v n : ℕ) w
   read-first-kept o h =
       let p = valid-first-some (part f t s) h in
       let b = first-begins (part f t s) p in
-      let g = ok-where o (value (first (part f t s)) (part f t s), (w, b)) in
-      let e : v ≡ value (first (part f t s)) (part f t s) = begins-unique (part f t s) v (value (first (part f t s)) (part f t s)) (g .1 .0 .1) b in (
+      let g = ok-where o (decoded (first (part f t s)) (part f t s), (w, b)) in
+      let e : v ≡ decoded (first (part f t s)) (part f t s) = begins-unique (part f t s) v (decoded (first (part f t s)) (part f t s)) (g .1 .0 .1) b in (
         g .0,
         e ∙ decode-first-scalar-same (part f t s) h,
         g .1 .1 ∙ ap len e ∙ first-len (part f t s) p ∙ length-of-first-scalar-same (part f t s) h,

@@ -10,9 +10,11 @@ use lib.ListN.{length, getD, drop, length-drop}
 use lib.Seq.{drop-cons}
 use borrow.Author.Tests.{eqb-true, eqb-false, eq-eqb, ne-eqb, ltb-true, ltb-false}
 use Rattle.theory_whole.proofs.Cases.{by-test}
+use Rattle.theory_lists.proofs.Between.{is-between, not-below, not-above}
+use Rattle.theory_lists.proofs.Below.{all-below, below-at}
 use Rattle.theory_text.specs.Scalar.{len, formed, form}
 use Rattle.theory_text.specs.Text.{Valid, Ends}
-use Rattle.theory_text.specs.ByValue.{follows}
+use Rattle.theory_text.specs.Scalar.{follows}
 use Rattle.theory_text.specs.Ascii.{Ascii}
 use Rattle.theory_text.proofs.Ends.{from-behind, behind-follows, ahead-not-follows, ends-form}
 use Rattle.theory_text.specs.Table.{first}
@@ -24,7 +26,7 @@ use Rattle.theory_text.specs.Boundary.{Boundary}
 use Rattle.theory_text.proofs.Unique.{rest-valid, valid-rest}
 use Rattle.theory_text.proofs.Boundaries.{boundary-splits, starts-boundary, boundary-start, boundary-inside, boundary-behind-first, boundary-behind-scalar, boundary-past-scalar, valid-dropped}
 use Rattle.vstd_text.specs.Text.{is-continuation-byte, at, length-of-first-scalar, pop-first-scalar, Valid-in, Valid-utf8, decode-in, decode-utf8, length-of-last-scalar, take-last-scalar, decode-last-scalar, Boundary-in, Is-char-boundary, Is-ascii-chars, Leads, is-leading-byte-width-1, is-leading-byte-width-2, is-leading-byte-width-3, is-leading-byte-width-4, Valid-leading-and-continuation-bytes-first-codepoint}
-use Rattle.vstd_text.proofs.Text.{lead-one, lead-two, lead-three, lead-four, range-in, range-below, range-above, length-of-first-scalar-same, decode-first-scalar-same, valid-first-some, some-valid-first}
+use Rattle.vstd_text.proofs.Text.{lead-one, lead-two, lead-three, lead-four, length-of-first-scalar-same, decode-first-scalar-same, valid-first-some, some-valid-first}
 
 -- ---- `valid_utf8` and `decode_utf8`
 module _ (b : ℕ) (bs : List ℕ) (p : 0 < first (b ∷ bs)) where
@@ -113,11 +115,11 @@ continuation-follows : (b : ℕ) → is-continuation-byte b ≡ follows b
 unfolding is-continuation-byte
 continuation-follows b =
     by-test (follows b)
-    (λ t. let e = eqb-true (b / 64) 2 t in range-in 0x80 0xbf b (omega arith) (omega arith) ∙ sym t)
+    (λ t. let e = eqb-true (b / 64) 2 t in is-between 0x80 0xbf b (omega arith) (omega arith) ∙ sym t)
     (λ t. let n = eqb-false (b / 64) 2 t in
     by-test (ltb b 0x80)
-    (λ l. range-below 0x80 0xbf b (ltb-true b 0x80 l) ∙ sym t)
-    (λ l. let m = ltb-false b 0x80 l in range-above 0x80 0xbf b (omega arith) ∙ sym t))
+    (λ l. not-below 0x80 0xbf b (ltb-true b 0x80 l) ∙ sym t)
+    (λ l. let m = ltb-false b 0x80 l in not-above 0x80 0xbf b (omega arith) ∙ sym t))
 
 not-continuation : (b : ℕ) → (b / 64 ≡ 2 → ⊥) → is-continuation-byte b ≡ false
 not-continuation b n = continuation-follows b ∙ ne-eqb (b / 64) 2 n
@@ -149,7 +151,7 @@ take-last-scalar-same bytes c e = rw (length-of-last-scalar-same bytes c e) (end
 
 -- ---- ASCII
 pub is-ascii-chars-same : (chars : List ℕ) → Is-ascii-chars chars ↔ Ascii chars
-is-ascii-chars-same chars = (λ a j h. omega (arith, a j h .1), λ a j h. omega (arith, a j h))
+is-ascii-chars-same chars = (λ a. all-below 0x80 chars (λ j h. omega (arith, a j h .1)), λ a j h. omega (arith, below-at 0x80 j chars a h))
 
 -- `decode_last_scalar`
 pub decode-last-scalar-same : (bytes : List ℕ) (c : ℕ) → Ends c bytes → decode-last-scalar bytes ≡ c

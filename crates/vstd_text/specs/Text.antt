@@ -5,28 +5,26 @@ use mathlib.Core.Path.{_≡_}
 use mathlib.Core.Logic.{_⊎_}
 use mathlib.Core.Bool.{Bool, true, cond, not, _&&_, _||_}
 use mathlib.Core.List.{List, [], _∷_, _++_}
-use lib.Dec.{leb, eqb}
+use lib.Dec.{eqb}
 use lib.ListN.{length, getD, take, drop}
+use Rattle.theory_lists.specs.Bounds.{between}
 
 -- ---- decoding
 
-abbrev pub within : ℕ → ℕ → ℕ → Bool
-within low high b = leb low b && leb b high
-
 unfoldable pub is-leading-byte-width-1 : ℕ → Bool
-is-leading-byte-width-1 b = within 0x00 0x7f b
+is-leading-byte-width-1 b = between 0x00 0x7f b
 
 unfoldable pub is-leading-byte-width-2 : ℕ → Bool
-is-leading-byte-width-2 b = within 0xc0 0xdf b
+is-leading-byte-width-2 b = between 0xc0 0xdf b
 
 unfoldable pub is-leading-byte-width-3 : ℕ → Bool
-is-leading-byte-width-3 b = within 0xe0 0xef b
+is-leading-byte-width-3 b = between 0xe0 0xef b
 
 unfoldable pub is-leading-byte-width-4 : ℕ → Bool
-is-leading-byte-width-4 b = within 0xf0 0xf7 b
+is-leading-byte-width-4 b = between 0xf0 0xf7 b
 
 unfoldable pub is-continuation-byte : ℕ → Bool
-is-continuation-byte b = within 0x80 0xbf b
+is-continuation-byte b = between 0x80 0xbf b
 
 abbrev pub continuation-bits : ℕ → ℕ
 continuation-bits b = b % 64
@@ -145,16 +143,16 @@ decode-last-scalar bytes =
 -- ---- encoding
 
 unfoldable pub has-width-1-encoding : ℕ → Bool
-has-width-1-encoding v = within 0 0x7f v
+has-width-1-encoding v = between 0 0x7f v
 
 unfoldable pub has-width-2-encoding : ℕ → Bool
-has-width-2-encoding v = within 0x80 0x7ff v
+has-width-2-encoding v = between 0x80 0x7ff v
 
 unfoldable pub has-width-3-encoding : ℕ → Bool
-has-width-3-encoding v = within 0x800 0xffff v && not (within 0xd800 0xdfff v)
+has-width-3-encoding v = between 0x800 0xffff v && not (between 0xd800 0xdfff v)
 
 unfoldable pub has-width-4-encoding : ℕ → Bool
-has-width-4-encoding v = within 0x10000 0x10ffff v
+has-width-4-encoding v = between 0x10000 0x10ffff v
 
 unfoldable pub is-scalar : ℕ → Bool
 is-scalar v = has-width-1-encoding v || (has-width-2-encoding v || (has-width-3-encoding v || has-width-4-encoding v))

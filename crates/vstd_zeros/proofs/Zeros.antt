@@ -117,7 +117,7 @@ module _ (w i : ℕ) (b : i < 2 ^ w) where
       let k = low-facts 0 w i (omega arith) b in
       rw vstd-trailing-zeros-is
       (record {
-        within = k .within;
+        at-most = k .at-most;
         all = rw zero-mul at (k .all);
         next = λ l. lowest (i / 2 ^ trailing 0 w i) ∙ k .next l;
         shifted = k .shifted;
@@ -129,7 +129,7 @@ module _ (w i : ℕ) (b : i < 2 ^ w) where
       let k = low-facts 1 w i (omega arith) b in
       rw vstd-trailing-ones-is
       (record {
-        within = k .within;
+        at-most = k .at-most;
         all = rw one-mul at (k .all);
         next = λ l. lowest (i / 2 ^ trailing 1 w i) ∙ k .next l;
         shifted = k .shifted;
@@ -141,7 +141,7 @@ module _ (w i : ℕ) (b : i < 2 ^ w) where
       let k = high-facts 0 w i (omega arith) b in
       rw vstd-leading-zeros-is
       (record {
-        within = k .within;
+        at-most = k .at-most;
         all = rw zero-mul at (k .all);
         next = λ l e. omega (arith, k .next l, lowest (i / 2 ^ (w - 1 - leading 0 w i)));
         shifted = k .shifted;
@@ -153,7 +153,7 @@ module _ (w i : ℕ) (b : i < 2 ^ w) where
       let k = high-facts 1 w i (omega arith) b in
       rw vstd-leading-ones-is
       (record {
-        within = k .within;
+        at-most = k .at-most;
         all = rw one-mul at (k .all);
         next = λ l. lowest (i / 2 ^ (w - 1 - leading 1 w i)) ∙ k .next l;
         shifted = k .shifted;
@@ -165,7 +165,7 @@ module _ (w i : ℕ) (b : i < 2 ^ w) where
 module _ {w i t : ℕ} where
   low-zeros : TrailingZerosFacts w i t → AtLow 0 w i t
   low-zeros f = record {
-    within = f .within;
+    at-most = f .at-most;
     all = rw zero-mul (f .all);
     next = λ l. sym (lowest (i / 2 ^ t)) ∙ f .next l;
     shifted = f .shifted;
@@ -174,7 +174,7 @@ module _ {w i t : ℕ} where
 
   low-ones : TrailingOnesFacts w i t → AtLow 1 w i t
   low-ones f = record {
-    within = f .within;
+    at-most = f .at-most;
     all = rw one-mul (f .all);
     next = λ l. sym (lowest (i / 2 ^ t)) ∙ f .next l;
     shifted = f .shifted;
@@ -183,7 +183,7 @@ module _ {w i t : ℕ} where
 
   high-zeros : LeadingZerosFacts w i t → AtHigh 0 w i t
   high-zeros f = record {
-    within = f .within;
+    at-most = f .at-most;
     all = rw zero-mul (f .all);
     next = λ l. (let n : i / 2 ^ (w - 1 - t) % 2 ≡ 0 → ⊥ = λ e. f .next l (lowest (i / 2 ^ (w - 1 - t)) ∙ e) in omega arith);
     shifted = f .shifted;
@@ -192,7 +192,7 @@ module _ {w i t : ℕ} where
 
   high-ones : LeadingOnesFacts w i t → AtHigh 1 w i t
   high-ones f = record {
-    within = f .within;
+    at-most = f .at-most;
     all = rw one-mul (f .all);
     next = λ l. sym (lowest (i / 2 ^ (w - 1 - t))) ∙ f .next l;
     shifted = f .shifted;

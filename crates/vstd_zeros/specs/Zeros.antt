@@ -32,28 +32,28 @@ vstd-leading-ones w i = vstd-leading-zeros w (2 ^ w - 1 - i)
 -- ---- the facts, of an answer t
 
 pub record TrailingZerosFacts (w i t : ℕ) : Type 0 where
-  pub within : t ≤ w
+  pub at-most : t ≤ w
   pub all : (i ≡ 0) ↔ (t ≡ w)
   pub next : t < w → bitAnd (i / 2 ^ t) 1 ≡ 1
   pub shifted : i * 2 ^ (w - t) % 2 ^ w ≡ 0
   pub before : (j : ℕ) → j < t → bitAnd (i / 2 ^ j) 1 ≡ 0
 
 pub record TrailingOnesFacts (w i t : ℕ) : Type 0 where
-  pub within : t ≤ w
+  pub at-most : t ≤ w
   pub all : (i ≡ 2 ^ w - 1) ↔ (t ≡ w)
   pub next : t < w → bitAnd (i / 2 ^ t) 1 ≡ 0
   pub shifted : (2 ^ w - 1 - i) * 2 ^ (w - t) % 2 ^ w ≡ 0
   pub before : (j : ℕ) → j < t → bitAnd (i / 2 ^ j) 1 ≡ 1
 
 pub record LeadingZerosFacts (w i t : ℕ) : Type 0 where
-  pub within : t ≤ w
+  pub at-most : t ≤ w
   pub all : (i ≡ 0) ↔ (t ≡ w)
   pub next : t < w → bitAnd (i / 2 ^ (w - 1 - t)) 1 ≡ 0 → ⊥
   pub shifted : i / 2 ^ (w - t) ≡ 0
   pub before : (j : ℕ) → w - t ≤ j → j < w → bitAnd (i / 2 ^ j) 1 ≡ 0
 
 pub record LeadingOnesFacts (w i t : ℕ) : Type 0 where
-  pub within : t ≤ w
+  pub at-most : t ≤ w
   pub all : (i ≡ 2 ^ w - 1) ↔ (t ≡ w)
   pub next : t < w → bitAnd (i / 2 ^ (w - 1 - t)) 1 ≡ 0
   pub shifted : (2 ^ w - 1 - i) / 2 ^ (w - t) ≡ 0

@@ -1,16 +1,14 @@
 -- Elements written into a list one after the other: these change, no others.
-use mathlib.Core.Path.{_≡_, refl, sym, ap, _∙_}
+use mathlib.Core.Path.{_≡_, refl, ap, _∙_}
 use mathlib.Core.Bool.{true, false}
 use mathlib.Core.List.{List, [], _∷_, append-assoc}
 use Prim.Native.Nat.{ℕ, zero, suc, _+_, _≤_, _<_}
 use native.Mathlib.Nat.{add-suc}
 use native.Mathlib.Numerals.{add-one}
 use native.Mathlib.Omega.{arith}
-use borrow.Author.Tests.{le-leb, lt-leb}
 use lib.ListN.{length, getD, set}
 use lib.Seq.{sets, sets-eq, drop-drop}
-use Rattle.theory_lists.specs.Written.{written}
-use Rattle.theory_digits.specs.Answers.{Writes}
+use Rattle.theory_lists.specs.Written.{written, Writes}
 
 -- the elements of `new` stored from index at + k on, as code stores them
 abbrev pub stored-on : List ℕ → ℕ → ℕ → List ℕ → List ℕ
@@ -34,23 +32,23 @@ unfolding written
 stored-written s at new h = as-sets s at new ∙ sets-eq new s at h ∙ rw (append-assoc, drop-drop)
 
 -- the `count` elements from index i on, one by one
-abbrev pub listed : List ℕ → ℕ → ℕ → List ℕ
-listed s i zero = []
-listed s i (suc count) = getD s i 0 ∷ listed s (suc i) count
+abbrev pub elements : List ℕ → ℕ → ℕ → List ℕ
+elements s i zero = []
+elements s i (suc count) = getD s i 0 ∷ elements s (suc i) count
 
-shifted : (x : ℕ) (s : List ℕ) (i count : ℕ) → listed (x ∷ s) (suc i) count ≡ listed s i count
+shifted : (x : ℕ) (s : List ℕ) (i count : ℕ) → elements (x ∷ s) (suc i) count ≡ elements s i count
 shifted x s i zero = refl
 shifted x s i (suc count) = rw (shifted x s (suc i) count)
 
-all-listed : (s : List ℕ) → listed s 0 (length s) ≡ s
-all-listed [] = refl
-all-listed (x ∷ s) = rw (shifted x s 0 (length s), all-listed s)
+all-elements : (s : List ℕ) → elements s 0 (length s) ≡ s
+all-elements [] = refl
+all-elements (x ∷ s) = rw (shifted x s 0 (length s), all-elements s)
 
 module _ {count : ℕ} (s : List ℕ) (at : ℕ) (new : List ℕ) (l : length new ≡ count) where
-  pub writes : at + count ≤ length s → Writes true s at new (stored s at (listed new 0 count))
+  pub writes : at + count ≤ length s → Writes true s at new (stored s at (elements new 0 count))
   writes h =
-      let e : listed new 0 count ≡ new = (rw l at (all-listed new)) in
-      rw e (record { in-range = sym (le-leb (at + length new) (length s) (omega arith)); left = stored-written s at new (omega arith) })
+      let e : elements new 0 count ≡ new = (rw l at (all-elements new)) in
+      rw e (record { asked = omega arith; given = stored-written s at new (omega arith) })
 
   pub writes-nothing : length s < at + count → Writes false s at new s
-  writes-nothing h = record { in-range = sym (lt-leb (at + length new) (length s) (omega arith)); left = refl }
+  writes-nothing h = record { asked = λ p. omega arith; given = refl }

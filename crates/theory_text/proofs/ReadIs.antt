@@ -5,11 +5,10 @@ use mathlib.Core.List.{List}
 use Prim.Native.Nat.{ℕ, _-_, _<_}
 use native.Mathlib.Omega.{arith}
 use lib.ListN.{length, drop}
-use Rattle.theory_text.specs.Text.{Begins, Ends}
+use Rattle.theory_text.specs.Text.{Begins, Ends, ReadIs}
 use Rattle.theory_text.specs.Table.{first}
-use Rattle.theory_text.specs.Reading.{value}
+use Rattle.theory_text.specs.Reading.{decoded}
 use Rattle.theory_text.specs.Boundary.{Back}
-use Rattle.theory_text.specs.Answer.{ReadIs}
 use Rattle.theory_text.specs.Scalar.{len}
 use Rattle.theory_text.proofs.Steps.{first-len}
 use Rattle.theory_text.proofs.Ends.{first-begins, begins-none, read-ends, back-ends, ends-first, ends-length}
@@ -25,10 +24,10 @@ module _ (s : List ℕ) where
   pub front-none : first s ≡ 0 → ReadIs (λ c. Begins c s) false 0 0
   front-none e = read-none (λ c. Begins c s) (begins-none s e)
 
-  pub front-some : (n v : ℕ) → 0 < n → n ≡ first s → v ≡ value n s → ReadIs (λ c. Begins c s) true v n
+  pub front-some : (n v : ℕ) → 0 < n → n ≡ first s → v ≡ decoded n s → ReadIs (λ c. Begins c s) true v n
   front-some n v p e f =
       let q : 0 < first s = rw e at p in
-      let g : v ≡ value (first s) s = f ∙ ap (λ (m : ℕ). value m s) e in
+      let g : v ≡ decoded (first s) s = f ∙ ap (λ (m : ℕ). decoded m s) e in
       read-some (λ c. Begins c s) v n (subst (λ (c : ℕ). Begins c s) (sym g) (first-begins s q)) (e ∙ sym (first-len s q) ∙ ap len (sym g))
 
   -- k is how far to go back from the end
@@ -36,7 +35,7 @@ module _ (s : List ℕ) where
     pub end-none : (first (drop (length s - k) s) ≡ k → ⊥) → ReadIs (λ c. Ends c s) false 0 0
     end-none n = read-none (λ c. Ends c s) (λ c e. n (ap (λ (m : ℕ). first (drop (length s - m) s)) (back-ends s c e k b) ∙ ends-first s c e ∙ sym (back-ends s c e k b)))
 
-    pub end-some : (v : ℕ) → first (drop (length s - k) s) ≡ k → v ≡ value k (drop (length s - k) s) → ReadIs (λ c. Ends c s) true v k
+    pub end-some : (v : ℕ) → first (drop (length s - k) s) ≡ k → v ≡ decoded k (drop (length s - k) s) → ReadIs (λ c. Ends c s) true v k
     end-some v e f =
         let r = read-ends s k (b .some) (b .inside) e in
         read-some (λ c. Ends c s) v k (subst (λ (c : ℕ). Ends c s) (sym f) (r .0)) (sym (ap len f ∙ r .1))
