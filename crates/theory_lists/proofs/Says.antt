@@ -22,6 +22,10 @@ pub says-alike : (b : Bool) {P Q : Type 0} → (P → Q) → (Q → P) → Says 
 says-alike true f g s = f s
 says-alike false f g s = λ q. s (g q)
 
+pub outcome-alike : {ok : Bool} {P X Y Q X′ Y′ : Type 0} → (P → Q) → (Q → P) → (P → X → X′) → (Y → Y′) → Outcome ok P X Y → Outcome ok Q X′ Y′
+outcome-alike {ok = true} p q f g o = record { asked = p (o .asked); given = f (o .asked) (o .given) }
+outcome-alike {ok = false} p q f g o = record { asked = λ a. o .asked (q a); given = g (o .given) }
+
 pub pinned-says : (b b′ : Bool) (P : Type 0) → Says b P → Says b′ P → b ≡ b′
 pinned-says true true P s s′ = refl
 pinned-says true false P s s′ = absurd (s′ s)
@@ -40,3 +44,10 @@ module _ {ok : Bool} {P X Y : Type 0} (o : Outcome ok P X Y) where
 
   pub refused-where : (P → ⊥) → (ok ≡ false) × Y
   refused-where n = let e = false-where ok (o .asked) n in (e, refused e .1)
+
+-- whatever follows of two that are given, and of two that are refused, follows of two outcomes for one question
+pub pinned-outcome : {ok ok′ : Bool} {P X Y X′ Y′ E : Type 0} → Outcome ok P X Y → Outcome ok′ P X′ Y′ → (X → X′ → E) → (Y → Y′ → E) → (ok ≡ ok′) × E
+pinned-outcome {ok = true} {ok′ = true} o o′ f g = (refl, f (o .given) (o′ .given))
+pinned-outcome {ok = true} {ok′ = false} o o′ f g = absurd (o′ .asked (o .asked))
+pinned-outcome {ok = false} {ok′ = true} o o′ f g = absurd (o .asked (o′ .asked))
+pinned-outcome {ok = false} {ok′ = false} o o′ f g = (refl, g (o .given) (o′ .given))

@@ -1,3 +1,11 @@
-pub mod Text
-pub mod TextKept
-pub mod TextWhole
+pub mod Operators
+pub mod Ranges
+pub mod Encoding
+pub mod Decoding
+pub mod Whole
+pub mod Last
+pub mod Places
+pub mod Characters
+pub mod Promised
+pub mod Kept
+pub mod Pinned

@@ -1,11 +1,10 @@
 use borrow.Author.Needs.{needs}
-use mathlib.Core.Path.{sym, _∙_}
-use Rattle.vstd_text.proofs.Text.{white-space-same}
+use Rattle.vstd_text.proofs.Promised.{is-white-space-promised}
 use Rattle.promisebook_text.proofs.pb_text_is_white_space.Statement.{statement}
 use Rattle.promisebook_text.proofs.pb_text_is_white_space.Tie as tie
 
 returns : tie.Need-returns
-returns c = c .is-white-space .ensures ∙ sym (white-space-same (c .before .args .c))
+returns c = is-white-space-promised (c .before .args .c) (c .is-white-space .ensures)
 
 pub pb-text-is-white-space-spec : {M : Type 1} → statement M
 pb-text-is-white-space-spec = tie.close (tie.spec (λ c κs. search needs) returns)

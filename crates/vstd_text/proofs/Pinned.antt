@@ -1,0 +1,71 @@
+-- Nothing else keeps what the exports on text promise: two answers to one question, and two slices left behind, are equal. `NAME-pinned` for each.
+use mathlib.Core.Path.{_≡_, sym, _∙_}
+use mathlib.Core.Bool.{Bool}
+use mathlib.Core.List.{List}
+use Prim.Native.Nat.{ℕ, _≤_}
+use native.Mathlib.Omega.{arith}
+use lib.ListN.{length}
+use Rattle.theory_lists.proofs.Says.{pinned-says, pinned-outcome}
+use Rattle.vstd_text.specs.Promises as promise
+use Rattle.vstd_text.specs.Decoding.{decode-last-scalar}
+use Rattle.vstd_text.specs.Encoding.{encode-scalar}
+use Rattle.vstd_text.specs.Places.{Is-char-boundary}
+use Rattle.vstd_text.specs.Characters.{Ascii-block}
+use Rattle.vstd_text.proofs.Last.{decode-last-scalar-same}
+use Rattle.vstd_text.proofs.Promised.{ends-same}
+
+-- what is equal to one thing is equal
+alike : {A : Type 0} {x y z : A} → x ≡ z → y ≡ z → x ≡ y
+alike p q = p ∙ sym q
+
+both-alike : {A B : Type 0} {x y z : A} {k l m : B} → (x ≡ z) × (k ≡ m) → (y ≡ z) × (l ≡ m) → (x ≡ y) × (k ≡ l)
+both-alike p q = (alike (p .0) (q .0), alike (p .1) (q .1))
+
+-- ---- one scalar value
+
+pub scalar-len-pinned : {ok ok′ : Bool} {v v′ : ℕ} (c : ℕ) → promise.ScalarLen ok v c → promise.ScalarLen ok′ v′ c → (ok ≡ ok′) × (v ≡ v′)
+scalar-len-pinned c o o′ = pinned-outcome o o′ alike alike
+
+pub is-white-space-pinned : {r r′ : Bool} (c : ℕ) → promise.IsWhiteSpace r c → promise.IsWhiteSpace r′ c → r ≡ r′
+is-white-space-pinned c = alike
+
+pub write-pinned : {ok ok′ : Bool} {v v′ : ℕ} {after after′ : List ℕ} (before : List ℕ) (at c : ℕ)
+    → promise.Write ok v before after at c → promise.Write ok′ v′ before after′ at c → (ok ≡ ok′) × ((v ≡ v′) × (after ≡ after′))
+write-pinned before at c o o′ = pinned-outcome o o′ both-alike both-alike
+
+-- ---- the ends of a part
+
+pub read-first-pinned : {ok ok′ : Bool} {v v′ n n′ : ℕ} (s : List ℕ) (from to : ℕ)
+    → promise.ReadFirst ok v n s from to → promise.ReadFirst ok′ v′ n′ s from to → (ok ≡ ok′) × ((v ≡ v′) × (n ≡ n′))
+read-first-pinned s from to o o′ = pinned-outcome o o′ both-alike both-alike
+
+-- two scalars whose encodings end the same bytes are one
+pub encoding-ends-pinned : (bytes : List ℕ) (c d : ℕ) → promise.Encoding-ends bytes c → promise.Encoding-ends bytes d → c ≡ d
+encoding-ends-pinned bytes c d p q =
+    sym (decode-last-scalar-same bytes c (ends-same bytes c .0 p)) ∙ decode-last-scalar-same bytes d (ends-same bytes d .0 q)
+
+pub read-last-pinned : {ok ok′ : Bool} {v v′ n n′ : ℕ} (s : List ℕ) (from to : ℕ)
+    → promise.ReadLast ok v n s from to → promise.ReadLast ok′ v′ n′ s from to → (ok ≡ ok′) × ((v ≡ v′) × (n ≡ n′))
+read-last-pinned {v = v} {v′ = v′} s from to o o′ =
+    pinned-outcome o o′ (λ x x′. let e = encoding-ends-pinned _ v v′ (x .0) (x′ .0) in (e, x .1 ∙ rw e (sym (x′ .1)))) both-alike
+
+-- ---- whole texts
+
+module _ (s : List ℕ) where
+  pub valid-pinned : (r r′ : Bool) → promise.Valid r s → promise.Valid r′ s → r ≡ r′
+  valid-pinned r r′ = pinned-says r r′ _
+
+  pub count-pinned : {ok ok′ : Bool} {v v′ : ℕ} → promise.Count ok v s → promise.Count ok′ v′ s → (ok ≡ ok′) × (v ≡ v′)
+  count-pinned o o′ = pinned-outcome o o′ alike alike
+
+  pub is-boundary-pinned : {ok ok′ : Bool} (v v′ : Bool) (at : ℕ) → promise.IsBoundary ok v s at → promise.IsBoundary ok′ v′ s at → (ok ≡ ok′) × (v ≡ v′)
+  is-boundary-pinned v v′ at o o′ = pinned-outcome o o′ (pinned-says v v′ (Is-char-boundary s at)) alike
+
+  pub split-at-pinned : {ok ok′ : Bool} {m m′ e e′ : ℕ} (at : ℕ) → promise.SplitAt ok m e s at → promise.SplitAt ok′ m′ e′ s at → (ok ≡ ok′) × ((m ≡ m′) × (e ≡ e′))
+  split-at-pinned at o o′ = pinned-outcome o o′ both-alike both-alike
+
+  pub is-ascii-pinned : (r r′ : Bool) → promise.IsAscii r s → promise.IsAscii r′ s → r ≡ r′
+  is-ascii-pinned r r′ a a′ = pinned-says r r′ (Ascii-block s 0 (length s)) (a .bytes) (a′ .bytes)
+
+  pub valid-up-to-pinned : {r r′ : ℕ} → promise.ValidUpTo r s → promise.ValidUpTo r′ s → r ≡ r′
+  valid-up-to-pinned {r} {r′} p q = omega (arith, p .most r′ (q .valid), q .most r (p .valid))

@@ -1,0 +1,56 @@
+-- vstd's boundaries are ours; and they meet vstd's own recursive equation.
+use mathlib.Core.Path.{_≡_, sym, subst}
+use mathlib.Core.Logic.{_↔_}
+use mathlib.Core.List.{List, [], _∷_}
+use Prim.Native.Nat.{ℕ, zero, suc, _+_, _-_, _<_, _≤_}
+use native.Mathlib.Omega.{arith}
+use lib.ListN.{length, take, drop}
+use Rattle.theory_text.specs.Text.{Valid}
+use Rattle.theory_text.specs.Table.{first}
+use Rattle.theory_text.specs.Boundary.{Boundary}
+use Rattle.theory_text.proofs.Unique.{valid-rest}
+use Rattle.theory_text.proofs.Boundaries.{boundary-splits, boundary-start, boundary-inside, boundary-behind-first, boundary-behind-scalar, boundary-past-scalar, valid-dropped}
+use Rattle.vstd_text.specs.Decoding.{length-of-first-scalar, Valid-utf8}
+use Rattle.vstd_text.specs.Places.{Boundary-in, Is-char-boundary}
+use Rattle.vstd_text.proofs.Decoding.{length-of-first-scalar-same, some-valid-first}
+use Rattle.vstd_text.proofs.Whole.{popped-less, some-bytes, valid-utf8-same}
+
+in-boundary : (n : ℕ) (bytes : List ℕ) → length bytes ≤ n → Valid bytes → (i : ℕ) → Boundary-in n bytes i → Boundary bytes i
+in-boundary zero bytes h v zero p = boundary-start bytes v
+in-boundary zero bytes h v (suc i) p = absurd p
+in-boundary (suc n) bytes h v zero p = boundary-start bytes v
+in-boundary (suc n) [] h v (suc i) p = absurd (omega arith)
+in-boundary (suc n) (b ∷ bs) h v (suc i) p =
+    let q = some-bytes b bs (valid-rest (b ∷ bs) v) in
+    let f = first (b ∷ bs) in
+    let e : f ≡ length-of-first-scalar (b ∷ bs) = length-of-first-scalar-same (b ∷ bs) (some-valid-first (b ∷ bs) q) in
+    let w : Valid (drop f (b ∷ bs)) = valid-dropped (b ∷ bs) q v in
+    let r : Boundary (drop f (b ∷ bs)) (suc i - f) = in-boundary n (drop f (b ∷ bs)) (popped-less b bs q n h) w (suc i - f) (subst (λ (k : ℕ). Boundary-in n (drop k (b ∷ bs)) (suc i - k)) (sym e) (p .1 .1)) in
+    let m : f ≤ suc i = rw e (p .1 .0) in
+    let g : f + (suc i - f) ≡ suc i = omega arith in
+    subst (Boundary (b ∷ bs)) g (boundary-behind-scalar (b ∷ bs) q (suc i - f) r)
+
+boundary-in : (n : ℕ) (bytes : List ℕ) → length bytes ≤ n → Valid bytes → (i : ℕ) → Boundary bytes i → Boundary-in n bytes i
+boundary-in zero bytes h v zero p = tt
+boundary-in zero bytes h v (suc i) p = omega (arith, boundary-inside bytes v (suc i) p)
+boundary-in (suc n) bytes h v zero p = tt
+boundary-in (suc n) [] h v (suc i) p = absurd (omega (arith, boundary-inside [] v (suc i) p))
+boundary-in (suc n) (b ∷ bs) h v (suc i) p =
+    let q = some-bytes b bs (valid-rest (b ∷ bs) v) in
+    let f = first (b ∷ bs) in
+    let e : f ≡ length-of-first-scalar (b ∷ bs) = length-of-first-scalar-same (b ∷ bs) (some-valid-first (b ∷ bs) q) in
+    let w : Valid (drop f (b ∷ bs)) = valid-dropped (b ∷ bs) q v in
+    let m : f ≤ suc i = boundary-behind-first (b ∷ bs) v (suc i) p (omega arith) in
+    let r : Boundary-in n (drop f (b ∷ bs)) (suc i - f) = boundary-in n (drop f (b ∷ bs)) (popped-less b bs q n h) w (suc i - f) (boundary-past-scalar (b ∷ bs) q (suc i) m p) in
+    (boundary-inside (b ∷ bs) v (suc i) p, (rw (← e) m, subst (λ (k : ℕ). Boundary-in n (drop k (b ∷ bs)) (suc i - k)) e r))
+
+pub is-char-boundary-same : (bytes : List ℕ) → Valid bytes → (index : ℕ) → Is-char-boundary bytes index ↔ Boundary bytes index
+is-char-boundary-same bytes v index =
+    (in-boundary (length bytes) bytes (omega arith) v index, boundary-in (length bytes) bytes (omega arith) v index)
+
+-- `valid_utf8_split`
+pub valid-utf8-split : (bytes : List ℕ) (index : ℕ) → Valid-utf8 bytes → Is-char-boundary bytes index → Valid-utf8 (take index bytes) × Valid-utf8 (drop index bytes)
+valid-utf8-split bytes index h b =
+    let v = valid-utf8-same bytes .0 h in
+    let p = boundary-splits bytes v index (is-char-boundary-same bytes v index .0 b) in
+    (valid-utf8-same (take index bytes) .1 (p .before), valid-utf8-same (drop index bytes) .1 (p .behind))
