@@ -2,7 +2,7 @@
 use mathlib.Core.Path.{_≡_, refl, sym, subst, _∙_}
 use mathlib.Core.Logic.{_↔_}
 use mathlib.Core.Bool.{Bool, true, false, _||_}
-use mathlib.Core.List.{List}
+use mathlib.Core.List.{List, _++_}
 use Prim.Native.Nat.{ℕ, _<_, _≤_}
 use native.Mathlib.Omega.{arith}
 use lib.Dec.{eqb}
@@ -12,13 +12,11 @@ use Rattle.theory_text.specs.Reading.{scalars}
 use Rattle.theory_text.specs.WhiteSpace.{whiteSpace, listed}
 use Rattle.theory_text.specs.Ascii.{Ascii}
 use Rattle.theory_text.proofs.Unique.{valid-encode}
-use Rattle.theory_text.proofs.Ascii.{ascii-encode, scalars-ascii}
+use Rattle.theory_text.proofs.Ascii.{ascii-scalars, ascii-encode, ascii-append, ascii-parts, scalars-ascii}
+use Rattle.vstd_text.specs.Encoding.{as-u8, encode-utf8}
 use Rattle.vstd_text.specs.Characters.{Is-ascii-chars, Ascii-block, is-white-space}
 use Rattle.vstd_text.proofs.Ranges.{lead-one, one-lead}
-
-or-false : (t : Bool) → t || false ≡ t
-or-false true = refl
-or-false false = refl
+use Rattle.vstd_text.proofs.Encoding.{or-false, encode-utf8-same}
 
 pub white-space-same : (c : ℕ) → is-white-space c ≡ listed whiteSpace c
 unfolding is-white-space
@@ -35,4 +33,24 @@ pub ascii-by-scalars : (s : List ℕ) → Valid s → Ascii s ↔ Ascii (scalars
 ascii-by-scalars s v = (
   λ a. subst Ascii (sym (scalars-ascii s a)) a,
   λ a. subst Ascii (sym (ascii-encode (scalars s) a) ∙ valid-encode s v) a,
+)
+
+-- ---- what vstd proves about ASCII, each under its name
+
+-- `is_ascii_chars_encode_utf8`
+pub is-ascii-chars-encode-utf8 : (chars : List ℕ) → Is-ascii-chars chars
+    → (length chars ≡ length (encode-utf8 chars)) × ((i : ℕ) → i < length chars → as-u8 (getD chars i 0) ≡ getD (encode-utf8 chars) i 0)
+is-ascii-chars-encode-utf8 chars a =
+    let b = is-ascii-chars-same chars .0 a in
+    rw (encode-utf8-same chars (ascii-scalars chars b), ascii-encode chars b) (refl, λ i h. omega (arith, b i h))
+
+-- `is_ascii_chars_nat_bound`
+pub is-ascii-chars-nat-bound : (chars : List ℕ) → Is-ascii-chars chars → (i : ℕ) → i < length chars → getD chars i 0 < 128
+is-ascii-chars-nat-bound chars = is-ascii-chars-same chars .0
+
+-- `is_ascii_chars_concat`
+pub is-ascii-chars-concat : (c1 c2 c3 : List ℕ) → c1 ≡ c2 ++ c3 → Is-ascii-chars c1 ↔ (Is-ascii-chars c2 × Is-ascii-chars c3)
+is-ascii-chars-concat c1 c2 c3 e = rw e (
+  λ a. let p = ascii-parts c2 c3 (is-ascii-chars-same (c2 ++ c3) .0 a) in (is-ascii-chars-same c2 .1 (p .0), is-ascii-chars-same c3 .1 (p .1)),
+  λ p. is-ascii-chars-same (c2 ++ c3) .1 (ascii-append c2 c3 (is-ascii-chars-same c2 .0 (p .0)) (is-ascii-chars-same c3 .0 (p .1))),
 )

@@ -1,18 +1,19 @@
 -- vstd's scalars and its encoding are ours.
 use mathlib.Core.Path.{_≡_, refl, sym, ap, _∙_}
 use mathlib.Core.Bool.{Bool, true, false, _||_}
-use mathlib.Core.List.{List, [], _∷_}
-use Prim.Native.Nat.{ℕ, _/_, _%_, _<_, _≤_}
+use mathlib.Core.List.{List, [], _∷_, _++_, append-assoc, append-nil}
+use Prim.Native.Nat.{ℕ, zero, suc, _/_, _%_, _<_, _≤_}
 use native.Mathlib.Omega.{arith}
-use lib.ListN.{length}
+use lib.ListN.{length, take, length-append}
+use Rattle.theory_whole.proofs.Cases.{by-test}
 use Rattle.theory_text.specs.Scalar.{Scalar, len, formed, form}
 use Rattle.theory_text.specs.Text.{Scalars, encode}
 use Rattle.theory_text.proofs.Sizes.{length-form, Sized, in-one, in-two, in-three, in-four, sized}
-use Rattle.vstd_text.specs.Encoding.{has-width-3-encoding, has-width-4-encoding, is-scalar, encode-scalar, encode-utf8}
+use Rattle.vstd_text.specs.Encoding.{has-width-1-encoding, has-width-2-encoding, has-width-3-encoding, has-width-4-encoding, is-scalar, encode-scalar, Chars, encode-utf8}
 use Rattle.vstd_text.proofs.Operators.{leading-byte-width-1-is, leading-byte-width-2-is, leading-byte-width-3-is, leading-byte-width-4-is, last-continuation-byte-is, second-last-continuation-byte-is, third-last-continuation-byte-is}
 use Rattle.vstd_text.proofs.Ranges.{width-one, not-one, width-two, not-two, width-three, three-width, not-three, width-four, four-width, not-four}
 
-or-false : (t : Bool) → t || false ≡ t
+pub or-false : (t : Bool) → t || false ≡ t
 or-false true = refl
 or-false false = refl
 
@@ -96,6 +97,14 @@ encode-scalar-same c s = by (sized c) ∙ refl
     by (in-three l h) = same-three c l h s
     by (in-four l) = same-four c l (s .0)
 
+pub chars-scalars : (chars : List ℕ) → Chars chars → Scalars chars
+chars-scalars [] h = tt
+chars-scalars (c ∷ chars) h = (is-scalar-scalar c (h .0), chars-scalars chars (h .1))
+
+pub scalars-chars : (chars : List ℕ) → Scalars chars → Chars chars
+scalars-chars [] s = tt
+scalars-chars (c ∷ chars) s = (scalar-is-scalar c (s .0), scalars-chars chars (s .1))
+
 pub encode-utf8-same : (chars : List ℕ) → Scalars chars → encode-utf8 chars ≡ encode chars
 unfolding encode-utf8
 encode-utf8-same [] s = refl
@@ -104,3 +113,37 @@ encode-utf8-same (c ∷ chars) s = rw (encode-scalar-same c (s .0), encode-utf8-
 -- `char::len_utf8`
 pub len-utf8-same : (c : ℕ) → Scalar c → length (encode-scalar c) ≡ len c
 len-utf8-same c s = ap length (encode-scalar-same c s) ∙ length-form c
+
+-- ---- vstd's laws of encoding
+
+-- `encode_utf8_concat`
+pub encode-utf8-concat : (a b : List ℕ) → encode-utf8 (a ++ b) ≡ encode-utf8 a ++ encode-utf8 b
+unfolding encode-utf8
+encode-utf8-concat [] b = refl
+encode-utf8-concat (c ∷ a) b = ap (λ (l : List ℕ). encode-scalar c ++ l) (encode-utf8-concat a b) ∙ sym (append-assoc (encode-scalar c) (encode-utf8 a) (encode-utf8 b))
+
+-- `encode_utf8_push`
+pub encode-utf8-push : (chars : List ℕ) (c : ℕ) → encode-utf8 (chars ++ c ∷ []) ≡ encode-utf8 chars ++ encode-scalar c
+unfolding encode-utf8
+encode-utf8-push chars c = encode-utf8-concat chars (c ∷ []) ∙ ap (λ (l : List ℕ). encode-utf8 chars ++ l) (append-nil (encode-scalar c))
+
+encode-scalar-some : (c : ℕ) → 0 < length (encode-scalar c)
+unfolding encode-scalar
+encode-scalar-some c =
+    by-test (has-width-1-encoding c) (λ t. rw t (omega arith))
+    (λ t. by-test (has-width-2-encoding c) (λ u. rw (t, u) (omega arith))
+    (λ u. by-test (has-width-3-encoding c) (λ w. rw (t, u, w) (omega arith)) (λ w. rw (t, u, w) (omega arith))))
+
+-- `lemma_encode_utf8_len_strictly_monotonic`
+pub encode-utf8-len-strictly-monotonic : (s : List ℕ) (i j : ℕ) → i < j → j ≤ length s → length (encode-utf8 (take i s)) < length (encode-utf8 (take j s))
+unfolding encode-utf8
+encode-utf8-len-strictly-monotonic s i zero h l = absurd (omega arith)
+encode-utf8-len-strictly-monotonic [] i (suc j) h l = absurd (omega arith)
+encode-utf8-len-strictly-monotonic (c ∷ s) zero (suc j) h l = omega (arith, encode-scalar-some c, length-append (encode-scalar c) (encode-utf8 (take j s)))
+encode-utf8-len-strictly-monotonic (c ∷ s) (suc i) (suc j) h l =
+    omega (
+      arith,
+      encode-utf8-len-strictly-monotonic s i j (omega arith) (omega arith),
+      length-append (encode-scalar c) (encode-utf8 (take i s)),
+      length-append (encode-scalar c) (encode-utf8 (take j s)),
+    )

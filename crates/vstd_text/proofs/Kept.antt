@@ -10,8 +10,6 @@ use Rattle.theory_lists.specs.Says.{Says}
 use Rattle.theory_lists.specs.Part.{part, Within}
 use Rattle.theory_lists.specs.Written.{written}
 use Rattle.theory_lists.proofs.Says.{says-true, true-where, ok-where}
-use Rattle.theory_text.specs.Text as text
-use Rattle.theory_text.proofs.Ends.{valid-ends}
 use Rattle.vstd_text.specs.Decoding.{Valid-first-scalar, decode-first-scalar, length-of-first-scalar, Valid-utf8, decode-utf8, length-of-last-scalar, decode-last-scalar}
 use Rattle.vstd_text.specs.Encoding.{is-scalar, encode-scalar}
 use Rattle.vstd_text.specs.Places.{Is-char-boundary}
@@ -19,8 +17,8 @@ use Rattle.vstd_text.specs.Characters.{Is-ascii-chars, is-white-space}
 use Rattle.vstd_text.specs.Promises as promise
 use Rattle.vstd_text.proofs.Encoding.{len-utf8-same}
 use Rattle.vstd_text.proofs.Whole.{valid-utf8-same}
-use Rattle.vstd_text.proofs.Last.{length-of-last-scalar-same, decode-last-scalar-same}
-use Rattle.vstd_text.proofs.Places.{valid-utf8-split}
+use Rattle.vstd_text.proofs.Last.{last-of, length-of-last-scalar-same, decode-last-scalar-same}
+use Rattle.vstd_text.proofs.Boundaries.{valid-utf8-split}
 use Rattle.vstd_text.proofs.Promised.{ends-same}
 
 -- a test that says P is true exactly where P holds
@@ -48,14 +46,6 @@ write-kept before at c o s h = ok-where o (s, h)
 pub read-first-kept : {ok : Bool} {v n : ℕ} (s : List ℕ) (from to : ℕ) → promise.ReadFirst ok v n s from to
     → Within from to s → Valid-first-scalar (part from to s) → (ok ≡ true) × ((v ≡ decode-first-scalar (part from to s)) × (n ≡ length-of-first-scalar (part from to s)))
 read-first-kept s from to o w h = ok-where o (w, h)
-
--- a text that is not empty ends with a scalar
-last-of : (s : List ℕ) → text.Valid s → 0 < length s → (c : ℕ) × text.Ends c s
-last-of s y p = to (y .0) (y .1) (y .2)
-  where
-    to : (cs : List ℕ) → text.Scalars cs → text.encode cs ≡ s → (c : ℕ) × text.Ends c s
-    to [] k e = let none : length s ≡ 0 = ap length (sym e) in absurd (omega arith)
-    to (c ∷ cs) k e = let q = valid-ends (c ∷ cs) k (omega arith) in (q .0, subst (λ (b : List ℕ). text.Ends (q .0) b) e (q .1 .1 .1))
 
 -- `decode_last_scalar`, `length_of_last_scalar`
 pub read-last-kept : {ok : Bool} {v n : ℕ} (s : List ℕ) (from to : ℕ) → promise.ReadLast ok v n s from to
@@ -87,7 +77,7 @@ module _ (s : List ℕ) where
       → (ok ≡ true) × ((m ≡ at) × ((e ≡ length s) × (Valid-utf8 (take m s) × Valid-utf8 (drop m s))))
   split-at-kept at o h b =
       let g = ok-where o (h, b) in
-      let p = valid-utf8-split s at h b in
+      let p = valid-utf8-split s h at b in
       (g .0, (g .1 .0, (g .1 .1, rw (g .1 .0) p)))
 
   -- `is_ascii_chars`

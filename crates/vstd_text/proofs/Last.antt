@@ -1,7 +1,7 @@
 -- vstd's last scalar, which it finds by going back over continuation bytes, is ours: the scalar whose form ends the bytes.
-use mathlib.Core.Path.{_≡_, refl, sym, ap, _∙_}
+use mathlib.Core.Path.{_≡_, refl, sym, ap, _∙_, subst}
 use mathlib.Core.Bool.{true, false}
-use mathlib.Core.List.{List, [], _++_}
+use mathlib.Core.List.{List, [], _∷_, _++_}
 use Prim.Native.Nat.{ℕ, zero, suc, _-_, _/_, _%_, _<_, _≤_}
 use native.Mathlib.Omega.{arith}
 use lib.Dec.{ltb}
@@ -9,9 +9,9 @@ use lib.ListN.{length, getD}
 use borrow.Author.Tests.{eqb-true, eqb-false, ltb-true, ltb-false}
 use Rattle.theory_whole.proofs.Cases.{by-test}
 use Rattle.theory_text.specs.Scalar.{len, formed, form}
-use Rattle.theory_text.specs.Text.{Ends}
+use Rattle.theory_text.specs.Text.{Scalars, encode, Valid, Ends}
 use Rattle.theory_text.specs.ByValue.{follows}
-use Rattle.theory_text.proofs.Ends.{from-behind, behind-follows, ahead-not-follows, ends-form}
+use Rattle.theory_text.proofs.Ends.{valid-ends, from-behind, behind-follows, ahead-not-follows, ends-form}
 use Rattle.theory_text.proofs.Sizes.{len-some, len-most, Sized, in-one, in-two, in-three, in-four, sized, form-as}
 use Rattle.theory_text.proofs.Forms.{written-value}
 use Rattle.vstd_text.specs.Decoding.{is-continuation-byte, at, length-of-last-scalar, take-last-scalar, decode-last-scalar}
@@ -98,3 +98,11 @@ module _ (bytes : List ℕ) (c : ℕ) (e : Ends c bytes) where
             byte 4 1 3 (in-four l) q (omega arith) refl,
           )
           (written-value (in-four l) (e .0) [])
+
+-- a text that is not empty ends with a scalar
+pub last-of : (s : List ℕ) → Valid s → 0 < length s → (c : ℕ) × Ends c s
+last-of s y p = to (y .0) (y .1) (y .2)
+  where
+    to : (cs : List ℕ) → Scalars cs → encode cs ≡ s → (c : ℕ) × Ends c s
+    to [] k e = let none : length s ≡ 0 = ap length (sym e) in absurd (omega arith)
+    to (c ∷ cs) k e = let q = valid-ends (c ∷ cs) k (omega arith) in (q .0, subst (λ (b : List ℕ). Ends (q .0) b) e (q .1 .1 .1))

@@ -5,6 +5,10 @@ pub mod Decoding
 pub mod Whole
 pub mod Last
 pub mod Places
+pub mod Widths
+pub mod Correspondence
+pub mod Partial
+pub mod Boundaries
 pub mod Characters
 pub mod Promised
 pub mod Kept

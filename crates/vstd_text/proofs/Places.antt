@@ -4,16 +4,16 @@ use mathlib.Core.Logic.{_↔_}
 use mathlib.Core.List.{List, [], _∷_}
 use Prim.Native.Nat.{ℕ, zero, suc, _+_, _-_, _<_, _≤_}
 use native.Mathlib.Omega.{arith}
-use lib.ListN.{length, take, drop}
+use lib.ListN.{length, drop}
 use Rattle.theory_text.specs.Text.{Valid}
 use Rattle.theory_text.specs.Table.{first}
 use Rattle.theory_text.specs.Boundary.{Boundary}
 use Rattle.theory_text.proofs.Unique.{valid-rest}
-use Rattle.theory_text.proofs.Boundaries.{boundary-splits, boundary-start, boundary-inside, boundary-behind-first, boundary-behind-scalar, boundary-past-scalar, valid-dropped}
-use Rattle.vstd_text.specs.Decoding.{length-of-first-scalar, Valid-utf8}
+use Rattle.theory_text.proofs.Boundaries.{boundary-start, boundary-inside, boundary-behind-first, boundary-behind-scalar, boundary-past-scalar, valid-dropped}
+use Rattle.vstd_text.specs.Decoding.{length-of-first-scalar, pop-first-scalar, Valid-utf8}
 use Rattle.vstd_text.specs.Places.{Boundary-in, Is-char-boundary}
 use Rattle.vstd_text.proofs.Decoding.{length-of-first-scalar-same, some-valid-first}
-use Rattle.vstd_text.proofs.Whole.{popped-less, some-bytes, valid-utf8-same}
+use Rattle.vstd_text.proofs.Whole.{popped-less, some-bytes, valid-utf8-same, pop-first-scalar-decreases, valid-utf8-is}
 
 in-boundary : (n : ℕ) (bytes : List ℕ) → length bytes ≤ n → Valid bytes → (i : ℕ) → Boundary-in n bytes i → Boundary bytes i
 in-boundary zero bytes h v zero p = boundary-start bytes v
@@ -48,9 +48,25 @@ pub is-char-boundary-same : (bytes : List ℕ) → Valid bytes → (index : ℕ)
 is-char-boundary-same bytes v index =
     (in-boundary (length bytes) bytes (omega arith) v index, boundary-in (length bytes) bytes (omega arith) v index)
 
--- `valid_utf8_split`
-pub valid-utf8-split : (bytes : List ℕ) (index : ℕ) → Valid-utf8 bytes → Is-char-boundary bytes index → Valid-utf8 (take index bytes) × Valid-utf8 (drop index bytes)
-valid-utf8-split bytes index h b =
-    let v = valid-utf8-same bytes .0 h in
-    let p = boundary-splits bytes v index (is-char-boundary-same bytes v index .0 b) in
-    (valid-utf8-same (take index bytes) .1 (p .before), valid-utf8-same (drop index bytes) .1 (p .behind))
+-- vstd's equation: 0 is a boundary, a place past the end is none, and any other is one exactly if it is one behind the first scalar
+pub is-char-boundary-is : (bytes : List ℕ) → Valid-utf8 bytes → (index : ℕ) → 0 < index
+    → Is-char-boundary bytes index ↔ ((index ≤ length bytes) × ((length-of-first-scalar bytes ≤ index) × Is-char-boundary (pop-first-scalar bytes) (index - length-of-first-scalar bytes)))
+is-char-boundary-is [] h zero p = absurd (omega arith)
+is-char-boundary-is [] h (suc i) p = (λ b. absurd b, λ b. absurd (omega arith))
+is-char-boundary-is (b ∷ bs) h zero p = absurd (omega arith)
+is-char-boundary-is (b ∷ bs) h (suc i) p = (λ q. (q .0, (q .1 .0, same .0 (q .1 .1))), λ q. (q .0, (q .1 .0, same .1 (q .1 .1))))
+  where
+    popped-valid : Valid (pop-first-scalar (b ∷ bs))
+    popped-valid = valid-utf8-same (pop-first-scalar (b ∷ bs)) .0 (valid-utf8-is (b ∷ bs) .0 h (λ e. omega arith) .1)
+
+    shorter : length (pop-first-scalar (b ∷ bs)) ≤ length bs
+    shorter = omega (arith, pop-first-scalar-decreases (b ∷ bs) (h .0))
+
+    at-behind : ℕ
+    at-behind = suc i - length-of-first-scalar (b ∷ bs)
+
+    same : Boundary-in (length bs) (pop-first-scalar (b ∷ bs)) at-behind ↔ Is-char-boundary (pop-first-scalar (b ∷ bs)) at-behind
+    same = (
+      λ q. is-char-boundary-same (pop-first-scalar (b ∷ bs)) popped-valid at-behind .1 (in-boundary (length bs) (pop-first-scalar (b ∷ bs)) shorter popped-valid at-behind q),
+      λ q. boundary-in (length bs) (pop-first-scalar (b ∷ bs)) shorter popped-valid at-behind (is-char-boundary-same (pop-first-scalar (b ∷ bs)) popped-valid at-behind .0 q),
+    )

@@ -25,6 +25,9 @@ range-above l h b p = second-not (leb l b) (lt-leb b h p)
 pub range-out : (l h b : ℕ) → ((l ≤ b) × (b ≤ h) → ⊥) → not (within l h b) ≡ true
 range-out l h b n = by-test (within l h b) (λ t. absurd (n (in-range l h b t))) (λ t. rw t)
 
+pub in-range-but : (l h m n b : ℕ) → within l h b && not (within m n b) ≡ true → (l ≤ b) × (b ≤ h)
+in-range-but l h m n b e = in-range l h b (both-are (within l h b) (not (within m n b)) e .0)
+
 pub out-range : (l h m n b : ℕ) → within l h b && not (within m n b) ≡ true → (m ≤ b) × (b ≤ n) → ⊥
 out-range l h m n b e p = never (range-in m n b (p .0) (p .1)) (not-true (within m n b) (both-are (within l h b) (not (within m n b)) e .1))
 
@@ -98,6 +101,10 @@ module _ (c : ℕ) where
   unfolding has-width-1-encoding
   width-one h = range-in _ _ c (omega arith) (omega arith)
 
+  pub one-width : has-width-1-encoding c ≡ true → c < 0x80
+  unfolding has-width-1-encoding
+  one-width e = let p = in-range _ _ c e in omega arith
+
   pub not-one : 0x80 ≤ c → has-width-1-encoding c ≡ false
   unfolding has-width-1-encoding
   not-one l = range-above _ _ c (omega arith)
@@ -105,6 +112,10 @@ module _ (c : ℕ) where
   pub width-two : 0x80 ≤ c → c < 0x800 → has-width-2-encoding c ≡ true
   unfolding has-width-2-encoding
   width-two l h = range-in _ _ c (omega arith) (omega arith)
+
+  pub two-width : has-width-2-encoding c ≡ true → (0x80 ≤ c) × (c < 0x800)
+  unfolding has-width-2-encoding
+  two-width e = let p = in-range _ _ c e in (omega arith, omega arith)
 
   pub not-two : 0x800 ≤ c → has-width-2-encoding c ≡ false
   unfolding has-width-2-encoding
@@ -117,6 +128,10 @@ module _ (c : ℕ) where
   pub three-width : has-width-3-encoding c ≡ true → Surrogate c → ⊥
   unfolding has-width-3-encoding
   three-width e s = out-range _ _ _ _ c e (omega arith, omega arith)
+
+  pub three-bounds : has-width-3-encoding c ≡ true → (0x800 ≤ c) × (c < 0x10000)
+  unfolding has-width-3-encoding
+  three-bounds e = let p = in-range-but _ _ _ _ c e in (omega arith, omega arith)
 
   pub not-three : 0x10000 ≤ c → has-width-3-encoding c ≡ false
   unfolding has-width-3-encoding

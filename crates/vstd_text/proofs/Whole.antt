@@ -62,3 +62,44 @@ decode-scalars (suc n) (b ∷ bs) h e =
 
 pub decode-utf8-same : (bytes : List ℕ) → Valid bytes → decode-utf8 bytes ≡ scalars bytes
 decode-utf8-same bytes v = decode-scalars (length bytes) bytes (omega arith) (valid-rest bytes v)
+
+-- ---- vstd's recursion
+
+-- `lemma_pop_first_scalar_decreases`
+pub pop-first-scalar-decreases : (bytes : List ℕ) → Valid-first-scalar bytes → length (pop-first-scalar bytes) < length bytes
+pop-first-scalar-decreases [] v = absurd (omega (arith, valid-first-some [] v))
+pop-first-scalar-decreases (b ∷ bs) v =
+    let p = valid-first-some (b ∷ bs) v in
+    omega (arith, popped-less b bs p (length bs) (omega arith), ap length (popped b bs p))
+
+-- a bound on the steps that the length meets is as good as the length
+in-whole : (n : ℕ) (bytes : List ℕ) → length bytes ≤ n → Valid-in n bytes ↔ Valid-utf8 bytes
+in-whole n bytes h = (
+  λ v. rest-in (length bytes) bytes (omega arith) (in-rest n bytes h v),
+  λ v. rest-in n bytes h (in-rest (length bytes) bytes (omega arith) v),
+)
+
+-- `valid_utf8`: vstd's equation
+pub valid-utf8-is : (bytes : List ℕ) → Valid-utf8 bytes ↔ ((length bytes ≡ 0 → ⊥) → Valid-first-scalar bytes × Valid-utf8 (pop-first-scalar bytes))
+valid-utf8-is [] = (λ v n. absurd (n refl), λ f. tt)
+valid-utf8-is (b ∷ bs) = (
+  λ v n. (v .0, in-whole (length bs) (pop-first-scalar (b ∷ bs)) (shorter (v .0)) .0 (v .1)),
+  λ f. let v = f (λ e. omega arith) in (v .0, in-whole (length bs) (pop-first-scalar (b ∷ bs)) (shorter (v .0)) .1 (v .1)),
+)
+  where
+    shorter : Valid-first-scalar (b ∷ bs) → length (pop-first-scalar (b ∷ bs)) ≤ length bs
+    shorter v = omega (arith, pop-first-scalar-decreases (b ∷ bs) v)
+
+-- `decode_utf8`: vstd's equation
+pub decode-utf8-none : decode-utf8 [] ≡ []
+unfolding decode-in
+decode-utf8-none = refl
+
+pub decode-utf8-is : (bytes : List ℕ) → Valid-utf8 bytes → (length bytes ≡ 0 → ⊥) → decode-utf8 bytes ≡ decode-first-scalar bytes ∷ decode-utf8 (pop-first-scalar bytes)
+unfolding decode-in
+decode-utf8-is [] v n = absurd (n refl)
+decode-utf8-is (b ∷ bs) v n =
+    let shorter : length (pop-first-scalar (b ∷ bs)) ≤ length bs = omega (arith, pop-first-scalar-decreases (b ∷ bs) (v .0)) in
+    let r = in-rest (length bs) (pop-first-scalar (b ∷ bs)) shorter (v .1) in
+    ap (λ (l : List ℕ). decode-first-scalar (b ∷ bs) ∷ l)
+    (decode-scalars (length bs) (pop-first-scalar (b ∷ bs)) shorter r ∙ sym (decode-scalars (length (pop-first-scalar (b ∷ bs))) (pop-first-scalar (b ∷ bs)) (omega arith) r))

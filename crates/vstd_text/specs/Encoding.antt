@@ -1,7 +1,8 @@
 -- vstd's encoding in UTF-8 (utf8.rs, "Encoding chars as UTF-8"), in the order of its file and each item under its name. `x >> k` is `x / 2 ^ k`, and `x as u8`
 -- of a u32 is `x % 2 ^ 8`.
 use Prim.Native.Nat.{ℕ, _/_, _%_, _^_}
-use mathlib.Core.Bool.{Bool, cond, not, _&&_, _||_}
+use mathlib.Core.Path.{_≡_}
+use mathlib.Core.Bool.{Bool, true, cond, not, _&&_, _||_}
 use mathlib.Core.List.{List, [], _∷_, _++_}
 use lib.Bits.{bitAnd, bitOr}
 use Rattle.vstd_text.specs.Decoding.{within}
@@ -58,6 +59,11 @@ encode-scalar scalar =
     (leading-byte-width-4 scalar ∷ third-last-continuation-byte scalar ∷ second-last-continuation-byte scalar ∷ last-continuation-byte scalar ∷ [])))
 
 -- ---- the bytes of many
+
+-- a Seq<char>: what Rust's type says of each (`char_is_scalar`)
+abbrev pub Chars : List ℕ → Type 0
+Chars [] = Unit {0}
+Chars (c ∷ chars) = (is-scalar c ≡ true) × Chars chars
 
 unfoldable pub encode-utf8 : List ℕ → List ℕ
 encode-utf8 [] = []
