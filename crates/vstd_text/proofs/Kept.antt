@@ -51,11 +51,14 @@ read-first-kept s from to o w h = ok-where o (w, h)
 pub read-last-kept : {ok : Bool} {v n : ℕ} (s : List ℕ) (from to : ℕ) → promise.ReadLast ok v n s from to
     → Within from to s → Valid-utf8 (part from to s) → 0 < length (part from to s)
     → (ok ≡ true) × ((v ≡ decode-last-scalar (part from to s)) × (n ≡ length-of-last-scalar (part from to s)))
-read-last-kept {v = v} s from to o w h p =
+read-last-kept {v = v} {n = n} s from to o w h p =
     let e = last-of (part from to s) (valid-utf8-same (part from to s) .0 h) p in
     let g = ok-where o (w, (e .0, ends-same (part from to s) (e .0) .1 (e .1))) in
     let ends = ends-same (part from to s) v .0 (g .1 .0) in
-    (g .0, (sym (decode-last-scalar-same (part from to s) v ends), g .1 .1 ∙ len-utf8-same v (ends .0) ∙ sym (length-of-last-scalar-same (part from to s) v ends)))
+    let size : n ≡ length (encode-scalar v) = search in (
+      g .0,
+      (sym (decode-last-scalar-same (part from to s) v ends), size ∙ len-utf8-same v (ends .0) ∙ sym (length-of-last-scalar-same (part from to s) v ends)),
+    )
 
 -- ---- whole texts
 
@@ -74,11 +77,11 @@ module _ (s : List ℕ) where
 
   -- `valid_utf8_split`
   pub split-at-kept : {ok : Bool} {m e : ℕ} (at : ℕ) → promise.SplitAt ok m e s at → Valid-utf8 s → Is-char-boundary s at
-      → (ok ≡ true) × ((m ≡ at) × ((e ≡ length s) × (Valid-utf8 (take m s) × Valid-utf8 (drop m s))))
-  split-at-kept at o h b =
+      → (ok ≡ true) × ((m ≡ at) × (Valid-utf8 (take m s) × Valid-utf8 (drop m s)))
+  split-at-kept {m = m} at o h b =
       let g = ok-where o (h, b) in
-      let p = valid-utf8-split s h at b in
-      (g .0, (g .1 .0, (g .1 .1, rw (g .1 .0) p)))
+      let there : m ≡ at = search in
+      (g .0, (there, rw there (valid-utf8-split s h at b)))
 
   -- `is_ascii_chars`
   pub is-ascii-kept : (r : Bool) → promise.IsAscii r s → Valid-utf8 s → (r ≡ true) ↔ Is-ascii-chars (decode-utf8 s)

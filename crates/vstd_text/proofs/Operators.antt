@@ -13,23 +13,23 @@ use Rattle.vstd_text.specs.Encoding.{as-u8, leading-byte-width-1, leadin
 
 pub continuation-bits-is : (b : ℕ) → continuation-bits b ≡ b % 64
 unfolding continuation-bits
-continuation-bits-is b = and-mask b 6
+continuation-bits-is b = omega (arith, and-mask b 6)
 
 pub leading-bits-width-1-is : (b : ℕ) → leading-bits-width-1 b ≡ b % 128
 unfolding leading-bits-width-1
-leading-bits-width-1-is b = and-mask b 7
+leading-bits-width-1-is b = omega (arith, and-mask b 7)
 
 pub leading-bits-width-2-is : (b : ℕ) → leading-bits-width-2 b ≡ b % 32
 unfolding leading-bits-width-2
-leading-bits-width-2-is b = and-mask b 5
+leading-bits-width-2-is b = omega (arith, and-mask b 5)
 
 pub leading-bits-width-3-is : (b : ℕ) → leading-bits-width-3 b ≡ b % 16
 unfolding leading-bits-width-3
-leading-bits-width-3-is b = and-mask b 4
+leading-bits-width-3-is b = omega (arith, and-mask b 4)
 
 pub leading-bits-width-4-is : (b : ℕ) → leading-bits-width-4 b ≡ b % 8
 unfolding leading-bits-width-4
-leading-bits-width-4-is b = and-mask b 3
+leading-bits-width-4-is b = omega (arith, and-mask b 3)
 
 -- ---- a codepoint
 
@@ -95,13 +95,20 @@ pub leading-byte-width-2-is : (c : ℕ) → leading-byte-width-2 c ≡ 0xc0 + c 
 unfolding leading-byte-width-2
 leading-byte-width-2-is c = marked 6 5 (c / 64) (omega arith)
 
+-- to shift by 12 or 18 is to take off two or three digits in base 64
+shifted-by-12 : (c : ℕ) → c / 2 ^ 12 ≡ c / 64 / 64
+shifted-by-12 c = sym (shr-shr c 6 6)
+
+shifted-by-18 : (c : ℕ) → c / 2 ^ 18 ≡ c / 64 / 64 / 64
+shifted-by-18 c = sym (shr-shr c 12 6) ∙ ap (λ (x : ℕ). x / 64) (shifted-by-12 c)
+
 pub leading-byte-width-3-is : (c : ℕ) → leading-byte-width-3 c ≡ 0xe0 + c / 64 / 64 % 16
 unfolding leading-byte-width-3
-leading-byte-width-3-is c = rw (← shr-shr c 6 6) (marked 14 4 (c / 64 / 64) (omega arith))
+leading-byte-width-3-is c = marked 14 4 (c / 2 ^ 12) (omega arith) ∙ ap (λ (x : ℕ). 0xe0 + x % 16) (shifted-by-12 c)
 
 pub leading-byte-width-4-is : (c : ℕ) → leading-byte-width-4 c ≡ 0xf0 + c / 64 / 64 / 64 % 8
 unfolding leading-byte-width-4
-leading-byte-width-4-is c = rw (← shr-shr c 12 6, ← shr-shr c 6 6) (marked 30 3 (c / 64 / 64 / 64) (omega arith))
+leading-byte-width-4-is c = marked 30 3 (c / 2 ^ 18) (omega arith) ∙ ap (λ (x : ℕ). 0xf0 + x % 8) (shifted-by-18 c)
 
 pub last-continuation-byte-is : (c : ℕ) → last-continuation-byte c ≡ 0x80 + c % 64
 unfolding last-continuation-byte
@@ -113,7 +120,7 @@ second-last-continuation-byte-is c = marked 2 6 (c / 64) (omega arith)
 
 pub third-last-continuation-byte-is : (c : ℕ) → third-last-continuation-byte c ≡ 0x80 + c / 64 / 64 % 64
 unfolding third-last-continuation-byte
-third-last-continuation-byte-is c = rw (← shr-shr c 6 6) (marked 2 6 (c / 64 / 64) (omega arith))
+third-last-continuation-byte-is c = marked 2 6 (c / 2 ^ 12) (omega arith) ∙ ap (λ (x : ℕ). 0x80 + x % 64) (shifted-by-12 c)
 
 -- ---- the classes of bytes by their highest bits
 

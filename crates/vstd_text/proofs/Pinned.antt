@@ -5,39 +5,31 @@ use mathlib.Core.List.{List}
 use Prim.Native.Nat.{ℕ, _≤_}
 use native.Mathlib.Omega.{arith}
 use lib.ListN.{length}
+use Rattle.theory_lists.specs.Part.{part}
 use Rattle.theory_lists.proofs.Says.{pinned-says, pinned-outcome}
 use Rattle.vstd_text.specs.Promises as promise
-use Rattle.vstd_text.specs.Decoding.{decode-last-scalar}
-use Rattle.vstd_text.specs.Encoding.{encode-scalar}
 use Rattle.vstd_text.specs.Places.{Is-char-boundary}
 use Rattle.vstd_text.specs.Characters.{Ascii-block}
 use Rattle.vstd_text.proofs.Last.{decode-last-scalar-same}
 use Rattle.vstd_text.proofs.Promised.{ends-same}
 
--- what is equal to one thing is equal
-alike : {A : Type 0} {x y z : A} → x ≡ z → y ≡ z → x ≡ y
-alike p q = p ∙ sym q
-
-both-alike : {A B : Type 0} {x y z : A} {k l m : B} → (x ≡ z) × (k ≡ m) → (y ≡ z) × (l ≡ m) → (x ≡ y) × (k ≡ l)
-both-alike p q = (alike (p .0) (q .0), alike (p .1) (q .1))
-
 -- ---- one scalar value
 
 pub scalar-len-pinned : {ok ok′ : Bool} {v v′ : ℕ} (c : ℕ) → promise.ScalarLen ok v c → promise.ScalarLen ok′ v′ c → (ok ≡ ok′) × (v ≡ v′)
-scalar-len-pinned c o o′ = pinned-outcome o o′ alike alike
+scalar-len-pinned c o o′ = pinned-outcome o o′ (λ x x′. cc) (λ y y′. cc)
 
 pub is-white-space-pinned : {r r′ : Bool} (c : ℕ) → promise.IsWhiteSpace r c → promise.IsWhiteSpace r′ c → r ≡ r′
-is-white-space-pinned c = alike
+is-white-space-pinned c p q = cc
 
 pub write-pinned : {ok ok′ : Bool} {v v′ : ℕ} {after after′ : List ℕ} (before : List ℕ) (at c : ℕ)
     → promise.Write ok v before after at c → promise.Write ok′ v′ before after′ at c → (ok ≡ ok′) × ((v ≡ v′) × (after ≡ after′))
-write-pinned before at c o o′ = pinned-outcome o o′ both-alike both-alike
+write-pinned before at c o o′ = pinned-outcome o o′ (λ x x′. (cc, cc)) (λ y y′. (cc, cc))
 
 -- ---- the ends of a part
 
 pub read-first-pinned : {ok ok′ : Bool} {v v′ n n′ : ℕ} (s : List ℕ) (from to : ℕ)
     → promise.ReadFirst ok v n s from to → promise.ReadFirst ok′ v′ n′ s from to → (ok ≡ ok′) × ((v ≡ v′) × (n ≡ n′))
-read-first-pinned s from to o o′ = pinned-outcome o o′ both-alike both-alike
+read-first-pinned s from to o o′ = pinned-outcome o o′ (λ x x′. (cc, cc)) (λ y y′. (cc, cc))
 
 -- two scalars whose encodings end the same bytes are one
 pub encoding-ends-pinned : (bytes : List ℕ) (c d : ℕ) → promise.Encoding-ends bytes c → promise.Encoding-ends bytes d → c ≡ d
@@ -47,7 +39,7 @@ encoding-ends-pinned bytes c d p q =
 pub read-last-pinned : {ok ok′ : Bool} {v v′ n n′ : ℕ} (s : List ℕ) (from to : ℕ)
     → promise.ReadLast ok v n s from to → promise.ReadLast ok′ v′ n′ s from to → (ok ≡ ok′) × ((v ≡ v′) × (n ≡ n′))
 read-last-pinned {v = v} {v′ = v′} s from to o o′ =
-    pinned-outcome o o′ (λ x x′. let e = encoding-ends-pinned _ v v′ (x .0) (x′ .0) in (e, x .1 ∙ rw e (sym (x′ .1)))) both-alike
+    pinned-outcome o o′ (λ x x′. let e = encoding-ends-pinned (part from to s) v v′ (x .0) (x′ .0) in (e, cc)) (λ y y′. (cc, cc))
 
 -- ---- whole texts
 
@@ -56,13 +48,13 @@ module _ (s : List ℕ) where
   valid-pinned r r′ = pinned-says r r′ _
 
   pub count-pinned : {ok ok′ : Bool} {v v′ : ℕ} → promise.Count ok v s → promise.Count ok′ v′ s → (ok ≡ ok′) × (v ≡ v′)
-  count-pinned o o′ = pinned-outcome o o′ alike alike
+  count-pinned o o′ = pinned-outcome o o′ (λ x x′. cc) (λ y y′. cc)
 
   pub is-boundary-pinned : {ok ok′ : Bool} (v v′ : Bool) (at : ℕ) → promise.IsBoundary ok v s at → promise.IsBoundary ok′ v′ s at → (ok ≡ ok′) × (v ≡ v′)
-  is-boundary-pinned v v′ at o o′ = pinned-outcome o o′ (pinned-says v v′ (Is-char-boundary s at)) alike
+  is-boundary-pinned v v′ at o o′ = pinned-outcome o o′ (pinned-says v v′ (Is-char-boundary s at)) (λ y y′. cc)
 
   pub split-at-pinned : {ok ok′ : Bool} {m m′ e e′ : ℕ} (at : ℕ) → promise.SplitAt ok m e s at → promise.SplitAt ok′ m′ e′ s at → (ok ≡ ok′) × ((m ≡ m′) × (e ≡ e′))
-  split-at-pinned at o o′ = pinned-outcome o o′ both-alike both-alike
+  split-at-pinned at o o′ = pinned-outcome o o′ (λ x x′. (cc, cc)) (λ y y′. (cc, cc))
 
   pub is-ascii-pinned : (r r′ : Bool) → promise.IsAscii r s → promise.IsAscii r′ s → r ≡ r′
   is-ascii-pinned r r′ a a′ = pinned-says r r′ (Ascii-block s 0 (length s)) (a .bytes) (a′ .bytes)

@@ -26,7 +26,7 @@ in-boundary (suc n) (b ∷ bs) h v (suc i) p =
     let e : f ≡ length-of-first-scalar (b ∷ bs) = length-of-first-scalar-same (b ∷ bs) (some-valid-first (b ∷ bs) q) in
     let w : Valid (drop f (b ∷ bs)) = valid-dropped (b ∷ bs) q v in
     let r : Boundary (drop f (b ∷ bs)) (suc i - f) = in-boundary n (drop f (b ∷ bs)) (popped-less b bs q n h) w (suc i - f) (subst (λ (k : ℕ). Boundary-in n (drop k (b ∷ bs)) (suc i - k)) (sym e) (p .1 .1)) in
-    let m : f ≤ suc i = rw e (p .1 .0) in
+    let m : f ≤ suc i = omega (arith, e, p .1 .0) in
     let g : f + (suc i - f) ≡ suc i = omega arith in
     subst (Boundary (b ∷ bs)) g (boundary-behind-scalar (b ∷ bs) q (suc i - f) r)
 

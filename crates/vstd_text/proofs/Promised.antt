@@ -34,7 +34,7 @@ use Rattle.vstd_text.proofs.Characters.{white-space-same, is-ascii-char
 -- ---- one scalar value
 
 pub scalar-len-promised : {ok : Bool} {v : ℕ} (c : ℕ) → Outcome ok (Scalar c) (v ≡ len c) (v ≡ 0) → promise.ScalarLen ok v c
-scalar-len-promised c = outcome-alike (scalar-is-scalar c) (is-scalar-scalar c) (λ s e. e ∙ sym (len-utf8-same c s)) (λ e. e)
+scalar-len-promised c = outcome-alike (scalar-is-scalar c) (is-scalar-scalar c) (λ s e. e ∙ sym (len-utf8-same c s)) (λ e. search)
 
 pub is-white-space-promised : {r : Bool} (c : ℕ) → r ≡ listed whiteSpace c → promise.IsWhiteSpace r c
 is-white-space-promised c e = e ∙ sym (white-space-same c)
@@ -45,8 +45,11 @@ pub write-promised : {ok : Bool} {v : ℕ} {after : List ℕ} (before : List ℕ
 write-promised before at c =
     outcome-alike (λ p. (scalar-is-scalar c (p .0), rw (len-utf8-same c (p .0)) (p .1)))
     (λ q. let s = is-scalar-scalar c (q .0) in (s, rw (len-utf8-same c s) at (q .1)))
-    (λ p x. (x .0 ∙ sym (len-utf8-same c (p .0)), x .1 ∙ ap (written before at) (sym (encode-scalar-same c (p .0)))))
-    (λ y. y)
+    (λ p x.
+    let size = x .0 ∙ sym (len-utf8-same c (p .0)) in
+    let left = x .1 ∙ ap (written before at) (sym (encode-scalar-same c (p .0))) in
+    search)
+    (λ y. search)
 
 -- ---- the ends of a part
 
@@ -55,8 +58,11 @@ pub read-first-promised : {ok : Bool} {v n : ℕ} (s : List ℕ) (from to : ℕ)
 read-first-promised {v = v} s from to =
     outcome-alike (λ p. (p .1 .0, begins-valid (part from to s) (p .0) (p .1 .1) .0))
     (λ q. (_, (q .0, valid-begins (part from to s) (q .1))))
-    (λ p x. let b = begins-valid (part from to s) v (x .0 .1) .1 in (b .0, x .1 ∙ b .1))
-    (λ y. y)
+    (λ p x.
+    let value = begins-valid (part from to s) v (x .0 .1) .1 .0 in
+    let size = x .1 ∙ begins-valid (part from to s) v (x .0 .1) .1 .1 in
+    search)
+    (λ y. search)
 
 pub ends-same : (bytes : List ℕ) (c : ℕ) → Encoding-ends bytes c ↔ text.Ends c bytes
 ends-same bytes c = (
@@ -69,8 +75,11 @@ pub read-last-promised : {ok : Bool} {v n : ℕ} (s : List ℕ) (from to : ℕ)
 read-last-promised {v = v} s from to =
     outcome-alike (λ p. (p .1 .0, (p .0, ends-same (part from to s) (p .0) .1 (p .1 .1))))
     (λ q. (q .1 .0, (q .0, ends-same (part from to s) (q .1 .0) .0 (q .1 .1))))
-    (λ p x. (ends-same (part from to s) v .1 (x .0 .1), x .1 ∙ sym (len-utf8-same v (x .0 .1 .0))))
-    (λ y. y)
+    (λ p x.
+    let value = ends-same (part from to s) v .1 (x .0 .1) in
+    let size = x .1 ∙ sym (len-utf8-same v (x .0 .1 .0)) in
+    search)
+    (λ y. search)
 
 -- ---- whole texts
 
@@ -85,18 +94,18 @@ module _ (s : List ℕ) where
   valid-promised r = says-alike r valid-to to-valid
 
   pub count-promised : {ok : Bool} {v : ℕ} → Outcome ok (text.Valid s) (v ≡ length (scalars s)) (v ≡ 0) → promise.Count ok v s
-  count-promised = outcome-alike valid-to to-valid (λ y e. e ∙ ap length (sym (decode-utf8-same s y))) (λ e. e)
+  count-promised = outcome-alike valid-to to-valid (λ y e. e ∙ ap length (sym (decode-utf8-same s y))) (λ e. search)
 
   pub is-boundary-promised : {ok : Bool} (v : Bool) (at : ℕ) → Outcome ok (text.Valid s) (Says v (Boundary s at)) (v ≡ false) → promise.IsBoundary ok v s at
   is-boundary-promised v at =
-      outcome-alike valid-to to-valid (λ y. says-alike v (is-char-boundary-same s y at .1) (is-char-boundary-same s y at .0)) (λ e. e)
+      outcome-alike valid-to to-valid (λ y. says-alike v (is-char-boundary-same s y at .1) (is-char-boundary-same s y at .0)) (λ e. search)
 
   pub split-at-promised : {ok : Bool} {m e : ℕ} (at : ℕ) → Outcome ok (Splits s at) ((m ≡ at) × (e ≡ length s)) ((m ≡ 0) × (e ≡ 0)) → promise.SplitAt ok m e s at
   split-at-promised at =
       outcome-alike (λ p. let y = splits-valid s at p in (valid-to y, is-char-boundary-same s y at .1 (splits-boundary s at p)))
       (λ q. let y = to-valid (q .0) in boundary-splits s y at (is-char-boundary-same s y at .0 (q .1)))
-      (λ p x. x)
-      (λ y. y)
+      (λ p x. search)
+      (λ y. search)
 
   pub is-ascii-promised : (r : Bool) → Says r (Ascii s) → promise.IsAscii r s
   is-ascii-promised r a = record {
@@ -112,4 +121,4 @@ module _ (s : List ℕ) where
   valid-to-there = (omega (arith, validTo-length s), valid-utf8-same (take (validTo s) s) .1 (rw (take-validTo s) (encode-valid (scalars s) (scalars-are s))))
 
   pub valid-up-to-promised : (r : ℕ) → r ≡ validTo s → promise.ValidUpTo r s
-  valid-up-to-promised r e = rw e (record { valid = valid-to-there; most = λ i p. longest s i (valid-utf8-same (take i s) .0 (p .1)) (p .0) })
+  valid-up-to-promised r e = rw e (record { valid = valid-to-there; most = λ i p. omega (arith, longest s i (valid-utf8-same (take i s) .0 (p .1)) (p .0)) })
