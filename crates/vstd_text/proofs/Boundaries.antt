@@ -4,7 +4,7 @@ use mathlib.Core.Logic.{_↔_, _⊎_, inl, inr}
 use mathlib.Core.List.{List, _∷_, _++_}
 use Prim.Native.Nat.{ℕ, suc, _-_, _<_, _≤_}
 use native.Mathlib.Omega.{arith}
-use lib.ListN.{length, getD, take, drop}
+use lib.ListN.{length, take, drop}
 use lib.Seq.{drop-cons}
 use borrow.Author.Tests.{not-true}
 use Rattle.theory_whole.proofs.Cases.{never, not-so}
@@ -100,4 +100,5 @@ module _ (bytes : List ℕ) (h : Valid-utf8 bytes) where
   pub valid-utf8-last : 0 < length bytes → (Continues (at bytes (length bytes - 1)) → ⊥) → Leads is-leading-byte-width-1 (at bytes (length bytes - 1))
   valid-utf8-last p n =
       let e = last-of bytes v p in
-      one-lead (at bytes (length bytes - 1)) (last-ascii bytes (e .0) (e .1) (λ f. n (a-continuation (at bytes (length bytes - 1)) (omega arith) (omega arith))))
+      let b = at bytes (length bytes - 1) in
+      one-lead b (last-ascii bytes (e .0) (e .1) (λ f. n (a-continuation b (omega arith) (omega arith))))

@@ -1,29 +1,30 @@
--- What vstd proves about writing and reading (utf8.rs, "Correspondence between encode_utf8 and decode_utf8 definitions"), of whole texts; of one form it stands in
--- Widths.antt. In the order of its file, and each under its name. There is no type char: `char_is_scalar` is asked as `Chars`, and `char_u32_cast` has no counterpart.
-use mathlib.Core.Path.{_≡_, refl, sym, ap, _∙_}
-use mathlib.Core.List.{List, [], _∷_, _++_}
+-- What vstd proves about writing and reading whole texts (utf8.rs, "Correspondence between encode_utf8 and decode_utf8 definitions"), in the order of its file
+-- and each under its name; what it proves about one form stands in Widths.antt. There is no type char: `char_is_scalar` is asked as `Chars`, and `char_u32_cast`
+-- has no counterpart.
+use mathlib.Core.Path.{_≡_, sym, ap, _∙_}
+use mathlib.Core.List.{List, _∷_, _++_}
 use Prim.Native.Nat.{ℕ, _<_}
 use native.Mathlib.Omega.{arith}
-use lib.ListN.{length, take}
-use Rattle.theory_text.specs.Text.{Begins}
-use Rattle.theory_text.specs.Table.{first}
+use lib.ListN.{length}
 use Rattle.theory_text.specs.Reading.{scalars}
 use Rattle.theory_text.proofs.Steps.{first-scalar}
 use Rattle.theory_text.proofs.Unique.{scalars-are, encode-scalars, encode-valid, valid-encode}
 use Rattle.theory_text.proofs.Pieces.{take-first}
 use Rattle.vstd_text.specs.Decoding.{Valid-first-scalar, decode-first-scalar, length-of-first-scalar, take-first-scalar, Valid-utf8, decode-utf8}
-use Rattle.vstd_text.specs.Encoding.{is-scalar, encode-scalar, Chars, encode-utf8}
+use Rattle.vstd_text.specs.Encoding.{encode-scalar, Chars, encode-utf8}
 use Rattle.vstd_text.proofs.Encoding.{is-scalar-scalar, encode-scalar-same, len-utf8-same, chars-scalars, scalars-chars, encode-utf8-same}
 use Rattle.vstd_text.proofs.Decoding.{length-of-first-scalar-same, decode-first-scalar-same, valid-first-some, begins-valid}
 use Rattle.vstd_text.proofs.Whole.{valid-utf8-same, decode-utf8-same, valid-utf8-is}
 
 -- `encode_utf8_first_scalar`
 pub encode-utf8-first-scalar : (c : ℕ) (chars : List ℕ) → Chars (c ∷ chars)
-    → (decode-first-scalar (encode-utf8 (c ∷ chars)) ≡ c) × ((length-of-first-scalar (encode-utf8 (c ∷ chars)) ≡ length (encode-scalar c)) × Valid-first-scalar (encode-utf8 (c ∷ chars)))
+    → (decode-first-scalar (encode-utf8 (c ∷ chars)) ≡ c)
+    × ((length-of-first-scalar (encode-utf8 (c ∷ chars)) ≡ length (encode-scalar c)) × Valid-first-scalar (encode-utf8 (c ∷ chars)))
 unfolding encode-utf8
 encode-utf8-first-scalar c chars h =
     let s = is-scalar-scalar c (h .0) in
-    let b = begins-valid (encode-scalar c ++ encode-utf8 chars) c (s, (encode-utf8 chars, ap (λ (l : List ℕ). l ++ encode-utf8 chars) (sym (encode-scalar-same c s)))) in
+    let front = ap (λ (l : List ℕ). l ++ encode-utf8 chars) (sym (encode-scalar-same c s)) in
+    let b = begins-valid (encode-scalar c ++ encode-utf8 chars) c (s, (encode-utf8 chars, front)) in
     (sym (b .1 .0), (sym (b .1 .1) ∙ sym (len-utf8-same c s), b .0))
 
 -- `encode_utf8_valid_utf8`

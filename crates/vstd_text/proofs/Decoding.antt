@@ -1,11 +1,10 @@
 -- vstd's first scalar is ours.
 use mathlib.Core.Path.{_≡_, refl, sym, ap, _∙_, subst}
 use mathlib.Core.Logic.{inl, inr}
-use mathlib.Core.Bool.{true}
 use mathlib.Core.List.{List, [], _∷_, _++_}
 use Prim.Native.Nat.{ℕ, _+_, _*_, _/_, _%_, _<_, _≤_}
 use native.Mathlib.Omega.{arith}
-use lib.ListN.{length, drop}
+use lib.ListN.{drop}
 use Rattle.theory_text.specs.Scalar.{Scalar, len, formed, digit}
 use Rattle.theory_text.specs.Text.{Begins}
 use Rattle.theory_text.specs.Table.{first}
@@ -13,7 +12,7 @@ use Rattle.theory_text.specs.Reading.{value}
 use Rattle.theory_text.proofs.Sizes.{len-some, Sized, in-one, in-two, in-three, in-four}
 use Rattle.theory_text.proofs.Forms.{Reads, read, one-read, two-read, three-read, four-read, written-first, written-value}
 use Rattle.theory_text.proofs.Ends.{first-begins, begins-first, begins-value}
-use Rattle.vstd_text.specs.Decoding.{is-leading-byte-width-1, Continues, Valid-leading-and-continuation-bytes-first-codepoint, decode-first-codepoint, length-of-first-codepoint, Not-surrogate, Valid-first-scalar, decode-first-scalar, length-of-first-scalar}
+use Rattle.vstd_text.specs.Decoding.{Continues, Valid-leading-and-continuation-bytes-first-codepoint, decode-first-codepoint, length-of-first-codepoint, Not-surrogate, Valid-first-scalar, decode-first-scalar, length-of-first-scalar}
 use Rattle.vstd_text.proofs.Operators.{codepoint-width-1-is, codepoint-width-2-is, codepoint-width-3-is, codepoint-width-4-is}
 use Rattle.vstd_text.proofs.Ranges.{lead-one, one-lead, past-one, lead-two, two-lead, past-two, lead-three, three-lead, past-three, lead-four, four-lead, continues, a-continuation}
 
@@ -40,7 +39,8 @@ module _ (b0 b1 b2 b3 : ℕ) (r : List ℕ) where
       (rw (one, two, three), rw (one, two, three) (codepoint-width-3-is b0 b1 b2))
 
   long-four : 0xf0 ≤ b0
-      → (length-of-first-codepoint (b0 ∷ b1 ∷ b2 ∷ b3 ∷ r) ≡ 4) × (decode-first-codepoint (b0 ∷ b1 ∷ b2 ∷ b3 ∷ r) ≡ ((b0 % 8 * 64 + b1 % 64) * 64 + b2 % 64) * 64 + b3 % 64)
+      → (length-of-first-codepoint (b0 ∷ b1 ∷ b2 ∷ b3 ∷ r) ≡ 4)
+      × (decode-first-codepoint (b0 ∷ b1 ∷ b2 ∷ b3 ∷ r) ≡ ((b0 % 8 * 64 + b1 % 64) * 64 + b2 % 64) * 64 + b3 % 64)
   unfolding length-of-first-codepoint decode-first-codepoint
   long-four l =
       let one = past-one b0 (omega arith) in
@@ -49,7 +49,8 @@ module _ (b0 b1 b2 b3 : ℕ) (r : List ℕ) where
       (rw (one, two, three), rw (one, two, three) (codepoint-width-4-is b0 b1 b2 b3))
 
 -- what vstd takes for the first scalar is read
-vstd-reads : (bytes : List ℕ) → Valid-first-scalar bytes → Reads (length-of-first-codepoint bytes) bytes × (decode-first-codepoint bytes ≡ value (length-of-first-codepoint bytes) bytes)
+vstd-reads : (bytes : List ℕ) → Valid-first-scalar bytes
+    → Reads (length-of-first-codepoint bytes) bytes × (decode-first-codepoint bytes ≡ value (length-of-first-codepoint bytes) bytes)
 vstd-reads bytes v = by bytes v (v .shaped)
   where
     by : (bytes : List ℕ) → Valid-first-scalar bytes → Valid-leading-and-continuation-bytes-first-codepoint bytes
@@ -138,10 +139,11 @@ form-vstd {c} (in-three a h) s r =
 form-vstd {c} (in-four a) s r =
     let b0 = 0xf0 + c / 64 / 64 / 64 in
     let m : c < 0x110000 = s .0 in
+    let lead = four-lead b0 (omega arith) (omega arith) in
     let l = long-four b0 (digit (c / 64 / 64)) (digit (c / 64)) (digit c) r (omega arith) in
     let q : ((b0 % 8 * 64 + digit (c / 64 / 64) % 64) * 64 + digit (c / 64) % 64) * 64 + digit c % 64 ≡ c = written-value (in-four a) s r in (
       record {
-        shaped = inr (inr (inr (omega arith, (four-lead b0 (omega arith) (omega arith), (digit-continues (c / 64 / 64), (digit-continues (c / 64), digit-continues c))))));
+        shaped = inr (inr (inr (omega arith, (lead, (digit-continues (c / 64 / 64), (digit-continues (c / 64), digit-continues c))))));
         shortest = rw (l .0, l .1, q) (record { two = λ x. absurd (omega arith); three = λ x. absurd (omega arith); four = λ x. (omega arith, omega arith) });
         scalar = rw (l .1, q) (scalar-not-surrogate c s);
       },

@@ -120,7 +120,8 @@ len-utf8-same c s = ap length (encode-scalar-same c s) ∙ length-form c
 pub encode-utf8-concat : (a b : List ℕ) → encode-utf8 (a ++ b) ≡ encode-utf8 a ++ encode-utf8 b
 unfolding encode-utf8
 encode-utf8-concat [] b = refl
-encode-utf8-concat (c ∷ a) b = ap (λ (l : List ℕ). encode-scalar c ++ l) (encode-utf8-concat a b) ∙ sym (append-assoc (encode-scalar c) (encode-utf8 a) (encode-utf8 b))
+encode-utf8-concat (c ∷ a) b =
+    ap (λ (l : List ℕ). encode-scalar c ++ l) (encode-utf8-concat a b) ∙ sym (append-assoc (encode-scalar c) (encode-utf8 a) (encode-utf8 b))
 
 -- `encode_utf8_push`
 pub encode-utf8-push : (chars : List ℕ) (c : ℕ) → encode-utf8 (chars ++ c ∷ []) ≡ encode-utf8 chars ++ encode-scalar c

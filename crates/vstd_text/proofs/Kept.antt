@@ -1,11 +1,12 @@
 -- What the exports on text promise gives vstd's clause, where vstd's demands are met: `NAME-kept` for each.
-use mathlib.Core.Path.{_≡_, refl, sym, ap, _∙_, subst}
+use mathlib.Core.Path.{_≡_, sym, ap, _∙_, subst}
 use mathlib.Core.Logic.{_↔_}
 use mathlib.Core.Bool.{Bool, true}
-use mathlib.Core.List.{List, [], _∷_, _++_}
+use mathlib.Core.List.{List}
 use Prim.Native.Nat.{ℕ, _+_, _≤_, _<_}
 use native.Mathlib.Omega.{arith}
 use lib.ListN.{length, take, drop}
+use lib.Seq.{take-length}
 use Rattle.theory_lists.specs.Says.{Says}
 use Rattle.theory_lists.specs.Part.{part, Within}
 use Rattle.theory_lists.specs.Written.{written}
@@ -37,14 +38,16 @@ is-white-space-kept c e = e
 
 -- `encode_scalar`
 pub write-kept : {ok : Bool} {v : ℕ} {after : List ℕ} (before : List ℕ) (at c : ℕ) → promise.Write ok v before after at c
-    → is-scalar c ≡ true → at + length (encode-scalar c) ≤ length before → (ok ≡ true) × ((v ≡ length (encode-scalar c)) × (after ≡ written before at (encode-scalar c)))
+    → is-scalar c ≡ true → at + length (encode-scalar c) ≤ length before
+    → (ok ≡ true) × ((v ≡ length (encode-scalar c)) × (after ≡ written before at (encode-scalar c)))
 write-kept before at c o s h = ok-where o (s, h)
 
 -- ---- the ends of a part
 
 -- `decode_first_scalar`, `length_of_first_scalar`
 pub read-first-kept : {ok : Bool} {v n : ℕ} (s : List ℕ) (from to : ℕ) → promise.ReadFirst ok v n s from to
-    → Within from to s → Valid-first-scalar (part from to s) → (ok ≡ true) × ((v ≡ decode-first-scalar (part from to s)) × (n ≡ length-of-first-scalar (part from to s)))
+    → Within from to s → Valid-first-scalar (part from to s)
+    → (ok ≡ true) × ((v ≡ decode-first-scalar (part from to s)) × (n ≡ length-of-first-scalar (part from to s)))
 read-first-kept s from to o w h = ok-where o (w, h)
 
 -- `decode_last_scalar`, `length_of_last_scalar`
@@ -86,3 +89,10 @@ module _ (s : List ℕ) where
   -- `is_ascii_chars`
   pub is-ascii-kept : (r : Bool) → promise.IsAscii r s → Valid-utf8 s → (r ≡ true) ↔ Is-ascii-chars (decode-utf8 s)
   is-ascii-kept r a h = says-iff r (a .chars h)
+
+  -- `valid_utf8`, where the whole text is valid
+  pub valid-up-to-kept : {r : ℕ} → promise.ValidUpTo r s → (r ≡ length s) ↔ Valid-utf8 s
+  valid-up-to-kept {r} p = (
+    λ e. subst Valid-utf8 (ap (λ (n : ℕ). take n s) e ∙ take-length s) (p .valid .1),
+    λ h. omega (arith, p .valid .0, p .most (length s) (omega arith, subst Valid-utf8 (sym (take-length s)) h)),
+  )

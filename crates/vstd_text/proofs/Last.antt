@@ -6,7 +6,7 @@ use Prim.Native.Nat.{ℕ, zero, suc, _-_, _/_, _%_, _<_, _≤_}
 use native.Mathlib.Omega.{arith}
 use lib.Dec.{ltb}
 use lib.ListN.{length, getD}
-use borrow.Author.Tests.{eqb-true, eqb-false, ltb-true, ltb-false}
+use borrow.Author.Tests.{eqb-true, eqb-false, ne-eqb, ltb-true, ltb-false}
 use Rattle.theory_whole.proofs.Cases.{by-test}
 use Rattle.theory_text.specs.Scalar.{len, formed, form}
 use Rattle.theory_text.specs.Text.{Scalars, encode, Valid, Ends}
@@ -28,7 +28,7 @@ continuation-follows b =
     (λ l. let m = ltb-false b 0x80 l in above-continuations b (omega arith) ∙ sym t))
 
 not-continuation : (b : ℕ) → (b / 64 ≡ 2 → ⊥) → is-continuation-byte b ≡ false
-not-continuation b n = by-test (ltb b 0x80) (λ l. below-continuations b (ltb-true b 0x80 l)) (λ l. let m = ltb-false b 0x80 l in above-continuations b (omega arith))
+not-continuation b n = continuation-follows b ∙ ne-eqb (b / 64) 2 n
 
 -- the bytes at the end, of which the last form is made
 module _ (bytes : List ℕ) (c : ℕ) (e : Ends c bytes) where

@@ -1,5 +1,5 @@
 -- What vstd proves about parts of text (utf8.rs, "Partial UTF-8 sequences"), in the order of its file and each under its name.
-use mathlib.Core.Path.{_≡_, sym, ap, _∙_, subst}
+use mathlib.Core.Path.{_≡_, ap, _∙_, subst}
 use mathlib.Core.List.{List, _++_}
 use Prim.Native.Nat.{ℕ, _+_, _-_, _≤_}
 use native.Mathlib.Omega.{arith}
@@ -21,7 +21,8 @@ valid-utf8-cut : (bytes : List ℕ) (i : ℕ) → Valid-utf8 (take i bytes) → 
 valid-utf8-cut bytes i h w = valid-utf8-same (drop i bytes) .1 (valid-cut bytes i (valid-utf8-same (take i bytes) .0 h) (valid-utf8-same bytes .0 w))
 
 -- `partial_valid_partial_invalid_utf8`
-pub partial-valid-partial-invalid-utf8 : (bytes : List ℕ) (i : ℕ) → i ≤ length bytes → Valid-utf8 (take i bytes) → (Valid-utf8 (drop i bytes) → ⊥) → Valid-utf8 bytes → ⊥
+pub partial-valid-partial-invalid-utf8 : (bytes : List ℕ) (i : ℕ) → i ≤ length bytes → Valid-utf8 (take i bytes)
+    → (Valid-utf8 (drop i bytes) → ⊥) → Valid-utf8 bytes → ⊥
 partial-valid-partial-invalid-utf8 bytes i l h n w = n (valid-utf8-cut bytes i h w)
 
 -- `partial_valid_utf8_invalid_subrange_helper`
@@ -43,11 +44,10 @@ partial-valid-utf8-extend bytes i p f =
     (next-within bytes i (p .0), valid-utf8-same _ .1 (valid-extend bytes i (valid-utf8-same (take i bytes) .0 (p .1)) (valid-first-some (drop i bytes) f)))
 
 -- `partial_valid_utf8_extend_ascii_block`
-pub partial-valid-utf8-extend-ascii-block : (bytes : List ℕ) (start end : ℕ) → Ascii-block bytes start end → Partial-valid-utf8 bytes start → start ≤ end → end ≤ length bytes
-    → Partial-valid-utf8 bytes end
+pub partial-valid-utf8-extend-ascii-block : (bytes : List ℕ) (start end : ℕ) → Ascii-block bytes start end → Partial-valid-utf8 bytes start
+    → start ≤ end → end ≤ length bytes → Partial-valid-utf8 bytes end
 partial-valid-utf8-extend-ascii-block bytes start end a p l m =
-    let e : start + (end - start) ≡ end = omega arith in (
-      m,
-      subst (λ (x : ℕ). Valid-utf8 (take x bytes)) e
-          (valid-utf8-same _ .1 (valid-ascii bytes start (end - start) (omega arith) (λ j f t. lead-one (getD bytes j 0) (a j f (omega arith))) (valid-utf8-same (take start bytes) .0 (p .1)))),
-    )
+    let e : start + (end - start) ≡ end = omega arith in
+    let before = valid-utf8-same (take start bytes) .0 (p .1) in
+    let whole = valid-ascii bytes start (end - start) (omega arith) (λ j f t. lead-one (getD bytes j 0) (a j f (omega arith))) before in
+    (m, subst (λ (x : ℕ). Valid-utf8 (take x bytes)) e (valid-utf8-same _ .1 whole))

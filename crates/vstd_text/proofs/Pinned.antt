@@ -1,17 +1,18 @@
 -- Nothing else keeps what the exports on text promise: two answers to one question, and two slices left behind, are equal. `NAME-pinned` for each.
-use mathlib.Core.Path.{_≡_, sym, _∙_}
+use mathlib.Core.Path.{_≡_, refl, sym, _∙_}
 use mathlib.Core.Bool.{Bool}
 use mathlib.Core.List.{List}
-use Prim.Native.Nat.{ℕ, _≤_}
+use Prim.Native.Nat.{ℕ}
 use native.Mathlib.Omega.{arith}
 use lib.ListN.{length}
 use Rattle.theory_lists.specs.Part.{part}
 use Rattle.theory_lists.proofs.Says.{pinned-says, pinned-outcome}
+use Rattle.theory_text.specs.Reading.{validTo}
 use Rattle.vstd_text.specs.Promises as promise
 use Rattle.vstd_text.specs.Places.{Is-char-boundary}
 use Rattle.vstd_text.specs.Characters.{Ascii-block}
 use Rattle.vstd_text.proofs.Last.{decode-last-scalar-same}
-use Rattle.vstd_text.proofs.Promised.{ends-same}
+use Rattle.vstd_text.proofs.Promised.{ends-same, valid-up-to-promised}
 
 -- ---- one scalar value
 
@@ -53,7 +54,8 @@ module _ (s : List ℕ) where
   pub is-boundary-pinned : {ok ok′ : Bool} (v v′ : Bool) (at : ℕ) → promise.IsBoundary ok v s at → promise.IsBoundary ok′ v′ s at → (ok ≡ ok′) × (v ≡ v′)
   is-boundary-pinned v v′ at o o′ = pinned-outcome o o′ (pinned-says v v′ (Is-char-boundary s at)) (λ y y′. cc)
 
-  pub split-at-pinned : {ok ok′ : Bool} {m m′ e e′ : ℕ} (at : ℕ) → promise.SplitAt ok m e s at → promise.SplitAt ok′ m′ e′ s at → (ok ≡ ok′) × ((m ≡ m′) × (e ≡ e′))
+  pub split-at-pinned : {ok ok′ : Bool} {m m′ e e′ : ℕ} (at : ℕ) → promise.SplitAt ok m e s at
+      → promise.SplitAt ok′ m′ e′ s at → (ok ≡ ok′) × ((m ≡ m′) × (e ≡ e′))
   split-at-pinned at o o′ = pinned-outcome o o′ (λ x x′. (cc, cc)) (λ y y′. (cc, cc))
 
   pub is-ascii-pinned : (r r′ : Bool) → promise.IsAscii r s → promise.IsAscii r′ s → r ≡ r′
@@ -61,3 +63,6 @@ module _ (s : List ℕ) where
 
   pub valid-up-to-pinned : {r r′ : ℕ} → promise.ValidUpTo r s → promise.ValidUpTo r′ s → r ≡ r′
   valid-up-to-pinned {r} {r′} p q = omega (arith, p .most r′ (q .valid), q .most r (p .valid))
+
+  pub valid-up-to-is : {r : ℕ} → promise.ValidUpTo r s → r ≡ validTo s
+  valid-up-to-is p = valid-up-to-pinned p (valid-up-to-promised s (validTo s) refl)

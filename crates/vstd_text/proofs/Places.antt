@@ -25,7 +25,8 @@ in-boundary (suc n) (b ∷ bs) h v (suc i) p =
     let f = first (b ∷ bs) in
     let e : f ≡ length-of-first-scalar (b ∷ bs) = length-of-first-scalar-same (b ∷ bs) (some-valid-first (b ∷ bs) q) in
     let w : Valid (drop f (b ∷ bs)) = valid-dropped (b ∷ bs) q v in
-    let r : Boundary (drop f (b ∷ bs)) (suc i - f) = in-boundary n (drop f (b ∷ bs)) (popped-less b bs q n h) w (suc i - f) (subst (λ (k : ℕ). Boundary-in n (drop k (b ∷ bs)) (suc i - k)) (sym e) (p .1 .1)) in
+    let behind = subst (λ (k : ℕ). Boundary-in n (drop k (b ∷ bs)) (suc i - k)) (sym e) (p .1 .1) in
+    let r = in-boundary n (drop f (b ∷ bs)) (popped-less b bs q n h) w (suc i - f) behind in
     let m : f ≤ suc i = omega (arith, e, p .1 .0) in
     let g : f + (suc i - f) ≡ suc i = omega arith in
     subst (Boundary (b ∷ bs)) g (boundary-behind-scalar (b ∷ bs) q (suc i - f) r)
@@ -41,7 +42,8 @@ boundary-in (suc n) (b ∷ bs) h v (suc i) p =
     let e : f ≡ length-of-first-scalar (b ∷ bs) = length-of-first-scalar-same (b ∷ bs) (some-valid-first (b ∷ bs) q) in
     let w : Valid (drop f (b ∷ bs)) = valid-dropped (b ∷ bs) q v in
     let m : f ≤ suc i = boundary-behind-first (b ∷ bs) v (suc i) p (omega arith) in
-    let r : Boundary-in n (drop f (b ∷ bs)) (suc i - f) = boundary-in n (drop f (b ∷ bs)) (popped-less b bs q n h) w (suc i - f) (boundary-past-scalar (b ∷ bs) q (suc i) m p) in
+    let behind = boundary-past-scalar (b ∷ bs) q (suc i) m p in
+    let r = boundary-in n (drop f (b ∷ bs)) (popped-less b bs q n h) w (suc i - f) behind in
     (boundary-inside (b ∷ bs) v (suc i) p, (rw (← e) m, subst (λ (k : ℕ). Boundary-in n (drop k (b ∷ bs)) (suc i - k)) e r))
 
 pub is-char-boundary-same : (bytes : List ℕ) → Valid bytes → (index : ℕ) → Is-char-boundary bytes index ↔ Boundary bytes index
@@ -50,23 +52,27 @@ is-char-boundary-same bytes v index =
 
 -- vstd's equation: 0 is a boundary, a place past the end is none, and any other is one exactly if it is one behind the first scalar
 pub is-char-boundary-is : (bytes : List ℕ) → Valid-utf8 bytes → (index : ℕ) → 0 < index
-    → Is-char-boundary bytes index ↔ ((index ≤ length bytes) × ((length-of-first-scalar bytes ≤ index) × Is-char-boundary (pop-first-scalar bytes) (index - length-of-first-scalar bytes)))
+    → Is-char-boundary bytes index
+    ↔ ((index ≤ length bytes) × ((length-of-first-scalar bytes ≤ index) × Is-char-boundary (pop-first-scalar bytes) (index - length-of-first-scalar bytes)))
 is-char-boundary-is [] h zero p = absurd (omega arith)
 is-char-boundary-is [] h (suc i) p = (λ b. absurd b, λ b. absurd (omega arith))
 is-char-boundary-is (b ∷ bs) h zero p = absurd (omega arith)
 is-char-boundary-is (b ∷ bs) h (suc i) p = (λ q. (q .0, (q .1 .0, same .0 (q .1 .1))), λ q. (q .0, (q .1 .0, same .1 (q .1 .1))))
   where
-    popped-valid : Valid (pop-first-scalar (b ∷ bs))
-    popped-valid = valid-utf8-same (pop-first-scalar (b ∷ bs)) .0 (valid-utf8-is (b ∷ bs) .0 h (λ e. omega arith) .1)
+    behind : List ℕ
+    behind = pop-first-scalar (b ∷ bs)
 
-    shorter : length (pop-first-scalar (b ∷ bs)) ≤ length bs
+    popped-valid : Valid behind
+    popped-valid = valid-utf8-same behind .0 (valid-utf8-is (b ∷ bs) .0 h (λ e. omega arith) .1)
+
+    shorter : length behind ≤ length bs
     shorter = omega (arith, pop-first-scalar-decreases (b ∷ bs) (h .0))
 
     at-behind : ℕ
     at-behind = suc i - length-of-first-scalar (b ∷ bs)
 
-    same : Boundary-in (length bs) (pop-first-scalar (b ∷ bs)) at-behind ↔ Is-char-boundary (pop-first-scalar (b ∷ bs)) at-behind
+    same : Boundary-in (length bs) behind at-behind ↔ Is-char-boundary behind at-behind
     same = (
-      λ q. is-char-boundary-same (pop-first-scalar (b ∷ bs)) popped-valid at-behind .1 (in-boundary (length bs) (pop-first-scalar (b ∷ bs)) shorter popped-valid at-behind q),
-      λ q. boundary-in (length bs) (pop-first-scalar (b ∷ bs)) shorter popped-valid at-behind (is-char-boundary-same (pop-first-scalar (b ∷ bs)) popped-valid at-behind .0 q),
+      λ q. is-char-boundary-same behind popped-valid at-behind .1 (in-boundary (length bs) behind shorter popped-valid at-behind q),
+      λ q. boundary-in (length bs) behind shorter popped-valid at-behind (is-char-boundary-same behind popped-valid at-behind .0 q),
     )

@@ -1,5 +1,5 @@
 -- The contracts of our functions on text give what the exports promise (specs/Promises.antt): `NAME-promised` for each.
-use mathlib.Core.Path.{_≡_, refl, sym, ap, _∙_, subst}
+use mathlib.Core.Path.{_≡_, sym, ap, _∙_}
 use mathlib.Core.Logic.{_↔_}
 use mathlib.Core.Bool.{Bool, false}
 use mathlib.Core.List.{List, _++_}
@@ -21,8 +21,7 @@ use Rattle.theory_text.proofs.Unique.{scalars-are, encode-valid, take-validTo, 
 use Rattle.theory_text.proofs.Pieces.{longest}
 use Rattle.theory_text.proofs.Boundaries.{splits-valid, splits-boundary, boundary-splits}
 use Rattle.vstd_text.specs.Decoding.{Valid-utf8}
-use Rattle.vstd_text.specs.Encoding.{encode-scalar}
-use Rattle.vstd_text.specs.Places.{Partial-valid-utf8, Is-char-boundary}
+use Rattle.vstd_text.specs.Places.{Partial-valid-utf8}
 use Rattle.vstd_text.specs.Promises as promise
 use Rattle.vstd_text.specs.Promises.{Encoding-ends}
 use Rattle.vstd_text.proofs.Encoding.{scalar-is-scalar, is-scalar-scalar, encode-scalar-same, len-utf8-same}
@@ -100,7 +99,8 @@ module _ (s : List ℕ) where
   is-boundary-promised v at =
       outcome-alike valid-to to-valid (λ y. says-alike v (is-char-boundary-same s y at .1) (is-char-boundary-same s y at .0)) (λ e. search)
 
-  pub split-at-promised : {ok : Bool} {m e : ℕ} (at : ℕ) → Outcome ok (Splits s at) ((m ≡ at) × (e ≡ length s)) ((m ≡ 0) × (e ≡ 0)) → promise.SplitAt ok m e s at
+  pub split-at-promised : {ok : Bool} {m e : ℕ} (at : ℕ) → Outcome ok (Splits s at) ((m ≡ at) × (e ≡ length s)) ((m ≡ 0) × (e ≡ 0))
+      → promise.SplitAt ok m e s at
   split-at-promised at =
       outcome-alike (λ p. let y = splits-valid s at p in (valid-to y, is-char-boundary-same s y at .1 (splits-boundary s at p)))
       (λ q. let y = to-valid (q .0) in boundary-splits s y at (is-char-boundary-same s y at .0 (q .1)))

@@ -6,7 +6,7 @@ use native.Mathlib.Omega.{arith}
 use lib.Dec.{leb}
 use borrow.Author.Tests.{le-leb, lt-leb, leb-true, not-true}
 use Rattle.theory_whole.proofs.Cases.{by-test, never, both, both-are, first-not, second-not}
-use Rattle.theory_text.specs.Scalar.{Scalar, Surrogate}
+use Rattle.theory_text.specs.Scalar.{Surrogate}
 use Rattle.vstd_text.specs.Decoding.{within, is-leading-byte-width-1, is-leading-byte-width-2, is-leading-byte-width-3, is-leading-byte-width-4, is-continuation-byte}
 use Rattle.vstd_text.specs.Encoding.{has-width-1-encoding, has-width-2-encoding, has-width-3-encoding, has-width-4-encoding}
 

@@ -1,7 +1,7 @@
 -- vstd's valid text and its characters are ours; and they meet vstd's own recursive equations.
 use mathlib.Core.Path.{_≡_, refl, sym, ap, _∙_, subst}
 use mathlib.Core.Logic.{_↔_}
-use mathlib.Core.List.{List, [], _∷_, _++_}
+use mathlib.Core.List.{List, [], _∷_}
 use Prim.Native.Nat.{ℕ, zero, suc, _<_, _≤_}
 use native.Mathlib.Omega.{arith}
 use lib.Dec.{ltb}
@@ -44,7 +44,8 @@ rest-in zero (b ∷ bs) h e = absurd (omega arith)
 rest-in (suc n) [] h e = tt
 rest-in (suc n) (b ∷ bs) h e =
     let p = some-bytes b bs e in
-    (some-valid-first (b ∷ bs) p, subst (Valid-in n) (sym (popped b bs p)) (rest-in n (drop (first (b ∷ bs)) (b ∷ bs)) (popped-less b bs p n h) (sym (rest-step (b ∷ bs) p) ∙ e)))
+    let behind = rest-in n (drop (first (b ∷ bs)) (b ∷ bs)) (popped-less b bs p n h) (sym (rest-step (b ∷ bs) p) ∙ e) in
+    (some-valid-first (b ∷ bs) p, subst (Valid-in n) (sym (popped b bs p)) behind)
 
 pub valid-utf8-same : (bytes : List ℕ) → Valid-utf8 bytes ↔ Valid bytes
 valid-utf8-same bytes =
@@ -95,11 +96,13 @@ pub decode-utf8-none : decode-utf8 [] ≡ []
 unfolding decode-in
 decode-utf8-none = refl
 
-pub decode-utf8-is : (bytes : List ℕ) → Valid-utf8 bytes → (length bytes ≡ 0 → ⊥) → decode-utf8 bytes ≡ decode-first-scalar bytes ∷ decode-utf8 (pop-first-scalar bytes)
+pub decode-utf8-is : (bytes : List ℕ) → Valid-utf8 bytes → (length bytes ≡ 0 → ⊥)
+    → decode-utf8 bytes ≡ decode-first-scalar bytes ∷ decode-utf8 (pop-first-scalar bytes)
 unfolding decode-in
 decode-utf8-is [] v n = absurd (n refl)
 decode-utf8-is (b ∷ bs) v n =
-    let shorter : length (pop-first-scalar (b ∷ bs)) ≤ length bs = omega (arith, pop-first-scalar-decreases (b ∷ bs) (v .0)) in
-    let r = in-rest (length bs) (pop-first-scalar (b ∷ bs)) shorter (v .1) in
+    let behind = pop-first-scalar (b ∷ bs) in
+    let shorter : length behind ≤ length bs = omega (arith, pop-first-scalar-decreases (b ∷ bs) (v .0)) in
+    let r = in-rest (length bs) behind shorter (v .1) in
     ap (λ (l : List ℕ). decode-first-scalar (b ∷ bs) ∷ l)
-    (decode-scalars (length bs) (pop-first-scalar (b ∷ bs)) shorter r ∙ sym (decode-scalars (length (pop-first-scalar (b ∷ bs))) (pop-first-scalar (b ∷ bs)) (omega arith) r))
+    (decode-scalars (length bs) behind shorter r ∙ sym (decode-scalars (length behind) behind (omega arith) r))

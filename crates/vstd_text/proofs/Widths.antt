@@ -1,13 +1,13 @@
--- What vstd proves about one form (utf8.rs, `encode_decode_width_1` .. `decode_encode_width_4`): written and read it is the same value, and read and written the same
--- bytes. In the order of its file, and each under its name.
-use mathlib.Core.Path.{_≡_, refl, sym, ap, _∙_}
+-- What vstd proves about one form (utf8.rs, `encode_decode_width_1` .. `decode_encode_width_4`): written and read it is the same value, and read and written
+-- the same bytes. In the order of its file, and each under its name.
+use mathlib.Core.Path.{_≡_, refl}
 use mathlib.Core.Bool.{true}
-use Prim.Native.Nat.{ℕ, _+_, _*_, _/_, _%_, _<_, _≤_}
+use Prim.Native.Nat.{ℕ, _+_, _*_, _/_, _%_}
 use native.Mathlib.Omega.{arith}
 use Rattle.vstd_text.specs.Decoding.{Leads, Continues, is-leading-byte-width-1, is-leading-byte-width-2, is-leading-byte-width-3, is-leading-byte-width-4, codepoint-width-1, codepoint-width-2, codepoint-width-3, codepoint-width-4, Not-overlong-encoding, Not-surrogate}
 use Rattle.vstd_text.specs.Encoding.{has-width-1-encoding, has-width-2-encoding, has-width-3-encoding, has-width-4-encoding, leading-byte-width-1, leading-byte-width-2, leading-byte-width-3, leading-byte-width-4, last-continuation-byte, second-last-continuation-byte, third-last-continuation-byte}
 use Rattle.vstd_text.proofs.Operators.{codepoint-width-1-is, codepoint-width-2-is, codepoint-width-3-is, codepoint-width-4-is, leading-byte-width-1-is, leading-byte-width-2-is, leading-byte-width-3-is, leading-byte-width-4-is, last-continuation-byte-is, second-last-continuation-byte-is, third-last-continuation-byte-is}
-use Rattle.vstd_text.proofs.Ranges.{lead-one, one-lead, lead-two, two-lead, lead-three, three-lead, lead-four, four-lead, continues, a-continuation, width-one, one-width, width-two, two-width, width-three, three-width, three-bounds, width-four, four-width}
+use Rattle.vstd_text.proofs.Ranges.{lead-one, one-lead, lead-two, two-lead, lead-three, three-lead, lead-four, four-lead, continues, a-continuation, width-one, one-width, width-two, two-width, width-three, three-bounds, width-four, four-width}
 
 -- ---- a continuation byte holds the last digit in base 64
 
@@ -22,12 +22,14 @@ joined c = omega arith
 
 -- ---- 1
 
-pub encode-decode-width-1 : (c : ℕ) → has-width-1-encoding c ≡ true → Leads is-leading-byte-width-1 (leading-byte-width-1 c) × (codepoint-width-1 (leading-byte-width-1 c) ≡ c)
+pub encode-decode-width-1 : (c : ℕ) → has-width-1-encoding c ≡ true
+    → Leads is-leading-byte-width-1 (leading-byte-width-1 c) × (codepoint-width-1 (leading-byte-width-1 c) ≡ c)
 encode-decode-width-1 c h =
     let p = one-width c h in
     rw (codepoint-width-1-is, leading-byte-width-1-is c) (one-lead (c % 128) (omega arith), omega arith)
 
-pub decode-encode-width-1 : (b1 : ℕ) → Leads is-leading-byte-width-1 b1 → (has-width-1-encoding (codepoint-width-1 b1) ≡ true) × (leading-byte-width-1 (codepoint-width-1 b1) ≡ b1)
+pub decode-encode-width-1 : (b1 : ℕ) → Leads is-leading-byte-width-1 b1
+    → (has-width-1-encoding (codepoint-width-1 b1) ≡ true) × (leading-byte-width-1 (codepoint-width-1 b1) ≡ b1)
 decode-encode-width-1 b1 l =
     let p = lead-one b1 l in
     rw (leading-byte-width-1-is, codepoint-width-1-is) (width-one (b1 % 128) (omega arith), omega arith)
@@ -35,7 +37,8 @@ decode-encode-width-1 b1 l =
 -- ---- 2
 
 pub encode-decode-width-2 : (c : ℕ) → has-width-2-encoding c ≡ true
-    → Leads is-leading-byte-width-2 (leading-byte-width-2 c) × (Continues (last-continuation-byte c) × (codepoint-width-2 (leading-byte-width-2 c) (last-continuation-byte c) ≡ c))
+    → Leads is-leading-byte-width-2 (leading-byte-width-2 c) × (Continues (last-continuation-byte c)
+    × (codepoint-width-2 (leading-byte-width-2 c) (last-continuation-byte c) ≡ c))
 encode-decode-width-2 c h =
     let p = two-width c h in
     let top : (0xc0 + c / 64 % 32) % 32 ≡ c / 64 = omega arith in
@@ -43,7 +46,8 @@ encode-decode-width-2 c h =
     (two-lead (0xc0 + c / 64 % 32) (omega arith) (omega arith), (last-continues c, rw (top, low-digit c) (joined c)))
 
 pub decode-encode-width-2 : (b1 b2 : ℕ) → Leads is-leading-byte-width-2 b1 → Continues b2 → Not-overlong-encoding (codepoint-width-2 b1 b2) 2
-    → (has-width-2-encoding (codepoint-width-2 b1 b2) ≡ true) × ((leading-byte-width-2 (codepoint-width-2 b1 b2) ≡ b1) × (last-continuation-byte (codepoint-width-2 b1 b2) ≡ b2))
+    → (has-width-2-encoding (codepoint-width-2 b1 b2) ≡ true)
+    × ((leading-byte-width-2 (codepoint-width-2 b1 b2) ≡ b1) × (last-continuation-byte (codepoint-width-2 b1 b2) ≡ b2))
 decode-encode-width-2 b1 b2 l k o =
     let p = lead-two b1 l in
     let q = continues b2 k in
@@ -90,7 +94,8 @@ decode-encode-width-3 b1 b2 b3 l k j o n =
 -- ---- 4
 
 pub encode-decode-width-4 : (c : ℕ) → has-width-4-encoding c ≡ true
-    → Leads is-leading-byte-width-4 (leading-byte-width-4 c) × (Continues (third-last-continuation-byte c) × (Continues (second-last-continuation-byte c) × (Continues (last-continuation-byte c)
+    → Leads is-leading-byte-width-4 (leading-byte-width-4 c) × (Continues (third-last-continuation-byte c)
+    × (Continues (second-last-continuation-byte c) × (Continues (last-continuation-byte c)
     × (codepoint-width-4 (leading-byte-width-4 c) (third-last-continuation-byte c) (second-last-continuation-byte c) (last-continuation-byte c) ≡ c))))
 encode-decode-width-4 c h =
     let p = four-width c h in

@@ -1,5 +1,5 @@
 -- vstd's decoding of UTF-8 (utf8.rs, "Decoding UTF-8 to chars"), in the order of its file and each item under its name. A sequence of bytes or of characters is
--- a list of numbers; `x & y` is `bitAnd x y`, `x | y` is `bitOr x y`, and `x << k` of a u32 is `x * 2 ^ k % 2 ^ 32`.
+-- a list of numbers; `x & y` is `bitAnd x y`, `x | y` is `bitOr x y`, `x << k` of a u32 is `x * 2 ^ k % 2 ^ 32`, and a cast to a wider type changes nothing.
 use Prim.Native.Nat.{ℕ, zero, suc, _-_, _*_, _%_, _^_, _≤_}
 use mathlib.Core.Path.{_≡_}
 use mathlib.Core.Logic.{_⊎_}
@@ -63,11 +63,13 @@ codepoint-width-3 byte1 byte2 byte3 =
 
 unfoldable pub codepoint-width-4 : ℕ → ℕ → ℕ → ℕ → ℕ
 codepoint-width-4 byte1 byte2 byte3 byte4 =
-    bitOr (bitOr (bitOr (shifted (leading-bits-width-4 byte1) 18) (shifted (continuation-bits byte2) 12)) (shifted (continuation-bits byte3) 6)) (continuation-bits byte4)
+    bitOr
+    (bitOr (bitOr (shifted (leading-bits-width-4 byte1) 18) (shifted (continuation-bits byte2) 12)) (shifted (continuation-bits byte3) 6))
+    (continuation-bits byte4)
 
 -- ---- the first codepoint, and the first scalar
 
--- bytes[i]
+-- bytes[i]; 0 past the end, where vstd says nothing
 abbrev pub at : List ℕ → ℕ → ℕ
 at bytes i = getD bytes i 0
 
@@ -153,5 +155,6 @@ unfoldable pub decode-last-scalar : List ℕ → ℕ
 decode-last-scalar bytes =
     cond (not (is-continuation-byte (at bytes (length bytes - 1)))) (codepoint-width-1 (at bytes (length bytes - 1)))
     (cond (not (is-continuation-byte (at bytes (length bytes - 2)))) (codepoint-width-2 (at bytes (length bytes - 2)) (at bytes (length bytes - 1)))
-    (cond (not (is-continuation-byte (at bytes (length bytes - 3)))) (codepoint-width-3 (at bytes (length bytes - 3)) (at bytes (length bytes - 2)) (at bytes (length bytes - 1)))
+    (cond (not (is-continuation-byte (at bytes (length bytes - 3))))
+    (codepoint-width-3 (at bytes (length bytes - 3)) (at bytes (length bytes - 2)) (at bytes (length bytes - 1)))
     (codepoint-width-4 (at bytes (length bytes - 4)) (at bytes (length bytes - 3)) (at bytes (length bytes - 2)) (at bytes (length bytes - 1)))))

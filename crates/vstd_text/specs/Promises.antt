@@ -1,5 +1,5 @@
--- What each exported function on text promises, for all arguments, in vstd's terms: the answer's parts come first, then the slice (before and after, where it is
--- written), then the other arguments. `Outcome` says when the function is ok, what it then answers, and what it leaves of a refusal.
+-- What each exported function on text promises, for all arguments, in vstd's terms: the answer's parts come first, then the slice (before and after, where it
+-- is written), then the other arguments. `Outcome` says when the function is ok, what it then answers, and what it leaves of a refusal.
 use Prim.Native.Nat.{ℕ, _+_, _≤_}
 use mathlib.Core.Path.{_≡_}
 use mathlib.Core.Bool.{Bool, true, false}
