@@ -263,8 +263,20 @@ def check_whole(rows, files, markdown, library):
         yield "docs/CONTRACTS.md is not what docs/contracts makes: run python3 docs/contracts.py"
 
 
-def check(files, markdown, library):
-    """All faults of a source and its document."""
+def check_findings(text, library):
+    """A finding names a file of vstd's and items that it has, in the first cell of its row."""
+    for cell in re.findall(r"^\| ([^|]*) \|", text, re.M):
+        file, _, rest = cell.partition(",")
+        if file not in contracts.VSTD_FILES:
+            continue
+        have = [item.split(" ", 1)[1] for item in library.items if item.startswith(file.replace("/", "--") + " ")]
+        for name in re.findall(r"`([^`]*)`", rest):
+            if not any(item == name or re.split(r"::(?=\w+$)", item)[-1] == name for item in have):
+                yield "%s has no item %s" % (file, name)
+
+
+def check(files, markdown, others, library):
+    """All faults of a source, its document and the documents beside it."""
     faults, rows = [], []
     for file in sorted(files):
         for part in contracts.parts(file, files[file]):
@@ -277,6 +289,8 @@ def check(files, markdown, library):
                 texts = [part]
             for text in texts:
                 faults.extend("docs/contracts/%s: %s" % (file, fault) for fault in check_words(text, library))
+    for name, text in others.items():
+        faults.extend("docs/%s: %s" % (name, fault) for one in (check_words, check_findings) for fault in one(text, library))
     faults.extend(check_whole(rows, files, markdown, library))
     return faults, rows
 
@@ -318,32 +332,37 @@ DAMAGES = [
 ]
 
 
-def selftest(files, library):
-    """Each damage is noticed, in the source and in the document."""
+def selftest(files, others, library):
+    """Each damage is noticed, in the source and in the documents."""
     for letter, old, new, expected in DAMAGES:
         file = next(name for name in files if name.startswith(letter))
         if old not in files[file]:
             yield "docs/check.py: the damage to %r cannot be done: docs/contracts/%s does not have it" % (old.strip(), file)
             continue
         damaged = dict(files, **{file: files[file].replace(old, new, 1)})
-        if not any(expected in fault for fault in check(damaged, contracts.document(damaged), library)[0]):
+        if not any(expected in fault for fault in check(damaged, contracts.document(damaged), others, library)[0]):
             yield "docs/check.py: damage goes unnoticed: %r for %r, with no fault that says %r" % (new.strip(), old.strip(), expected)
-    if not check(files, contracts.document(files) + "\n", library)[0]:
+    if not check(files, contracts.document(files) + "\n", others, library)[0]:
         yield "docs/check.py: a changed docs/CONTRACTS.md goes unnoticed"
+    for old, new in (("Slices.longer-clause-open", "Slices.longer-clause-closed"), ("`split_at_mut`", "`split_at_must`")):
+        damaged = {name: text.replace(old, new) for name, text in others.items()}
+        if not check(files, contracts.document(files), damaged, library)[0]:
+            yield "docs/check.py: %s for %s in docs/FINDINGS.md goes unnoticed" % (new, old)
 
 
 def main():
     faults = []
     library = Library(faults)
     files = contracts.sources()
-    found, rows = check(files, contracts.read(os.path.join(HERE, "CONTRACTS.md")), library)
+    others = {name: contracts.read(os.path.join(HERE, name)) for name in ("FINDINGS.md", "BELIEVED.md")}
+    found, rows = check(files, contracts.read(os.path.join(HERE, "CONTRACTS.md")), others, library)
     faults.extend(found)
     if not faults:
-        faults.extend(selftest(files, library))
+        faults.extend(selftest(files, others, library))
     for fault in faults:
         print(fault)
     taken = sum(item.split(" ")[0] in TAKEN_UP for item in library.items)
-    print("docs: %d rows, %d items of vstd's in the files taken up, %d public functions, %d must-fail edits, %d damages tried, %d faults" % (len(rows), taken, len(library.functions), len(library.edits), len(DAMAGES) + 1, len(faults)))
+    print("docs: %d rows, %d items of vstd's in the files taken up, %d public functions, %d must-fail edits, %d damages tried, %d faults" % (len(rows), taken, len(library.functions), len(library.edits), len(DAMAGES) + 3, len(faults)))
     sys.exit(1 if faults else 0)
 
 
