@@ -3,7 +3,7 @@
 ghost use mathlib.Core.Path.{_≡_};
 ghost use lib.IntN.{pos};
 ghost use Rattle.theory_whole.specs.Fit.{Answers};
-ghost use Rattle.theory_digits.specs.Digits.{AllBelow, digitsHigh};
+ghost use Rattle.theory_digits.specs.Digits.{digitsHigh};
 ghost use Rattle.theory_digits.specs.Answers.{numberHigh, Writes};
 ghost use Rattle.vstd_number_bytes.specs.Bytes.{from-le-bytes, spec-to-le-bytes};
 
@@ -11,7 +11,7 @@ ghost use Rattle.vstd_number_bytes.specs.Bytes.{from-le-bytes, spec-to-le-bytes
 
 #[no_mangle]
 pub extern "C" fn pb_u16_from_le_bytes(s: &[u8]) -> number_bytes16::Checked
-    ensures { λ r. ⌜ (AllBelow 256 (now (s .entry)) → Answers (r .ok) (pos (r .value)) (from-le-bytes 16 1 (now (s .entry)))) ⌝ }
+    ensures { λ r. ⌜ Answers (r .ok) (pos (r .value)) (from-le-bytes 16 1 (now (s .entry))) ⌝ }
 {
     number_bytes16::from_le_bytes(s)
 }
@@ -44,7 +44,7 @@ pub extern "C" fn pb_u16_to_be_bytes(x: u16, s: &mut [u8], at: usize) -> bool
 
 #[no_mangle]
 pub extern "C" fn pb_u32_from_le_bytes(s: &[u8]) -> number_bytes32::Checked
-    ensures { λ r. ⌜ (AllBelow 256 (now (s .entry)) → Answers (r .ok) (pos (r .value)) (from-le-bytes 32 3 (now (s .entry)))) ⌝ }
+    ensures { λ r. ⌜ Answers (r .ok) (pos (r .value)) (from-le-bytes 32 3 (now (s .entry))) ⌝ }
 {
     number_bytes32::from_le_bytes(s)
 }
@@ -77,7 +77,7 @@ pub extern "C" fn pb_u32_to_be_bytes(x: u32, s: &mut [u8], at: usize) -> bool
 
 #[no_mangle]
 pub extern "C" fn pb_u64_from_le_bytes(s: &[u8]) -> number_bytes64::Checked
-    ensures { λ r. ⌜ (AllBelow 256 (now (s .entry)) → Answers (r .ok) (pos (r .value)) (from-le-bytes 64 7 (now (s .entry)))) ⌝ }
+    ensures { λ r. ⌜ Answers (r .ok) (pos (r .value)) (from-le-bytes 64 7 (now (s .entry))) ⌝ }
 {
     number_bytes64::from_le_bytes(s)
 }

@@ -38,7 +38,7 @@ valueHigh-of-digitsHigh b count n p h = rw reverse-reverse (value-of-digits b co
 pub digitsHigh-of-valueHigh : (b : ℕ) (ds : List ℕ) → AllBelow b ds → digitsHigh b (length ds) (valueHigh b ds) ≡ ds
 digitsHigh-of-valueHigh b ds h = rw (← length-reverse ds, digits-of-value b (reverse ds) (below-reverse b ds h)) (reverse-reverse ds)
 
-reverse-injective : (ds es : List ℕ) → reverse ds ≡ reverse es → ds ≡ es
+pub reverse-injective : (ds es : List ℕ) → reverse ds ≡ reverse es → ds ≡ es
 reverse-injective ds es e = sym (reverse-reverse ds) ∙ rw e (reverse-reverse es)
 
 pub valueHigh-injective : (b : ℕ) (ds es : List ℕ) → AllBelow b ds → AllBelow b es → length ds ≡ length es → valueHigh b ds ≡ valueHigh b es → ds ≡ es

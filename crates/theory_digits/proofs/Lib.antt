@@ -1,7 +1,9 @@
 pub mod Digits
 pub mod Parts
 pub mod High
+pub mod PartsHigh
 pub mod Bases
+pub mod BasesHigh
 pub mod Runs
 pub mod Bits
 pub mod Ends
@@ -9,5 +11,7 @@ pub mod Counting
 pub mod Reading
 pub mod Writing
 pub mod Facts
+pub mod Enough
 pub mod TooFew
+pub mod WhichPin
 pub mod Powers

@@ -52,7 +52,7 @@ read-down-is b k s l = read-so-far b k s (omega arith) ∙ ap (valueHigh b) (tak
 
 -- ---- what is read, and what is refused
 
-below-each : (b : ℕ) (s : List ℕ) → ((i : ℕ) → getD s i 0 < b) → AllBelow b s
+pub below-each : (b : ℕ) (s : List ℕ) → ((i : ℕ) → getD s i 0 < b) → AllBelow b s
 unfolding AllBelow
 below-each b [] h = tt
 below-each b (x ∷ s) h = (h 0, below-each b s (λ i. h (suc i)))

@@ -1,7 +1,7 @@
 -- How an answer is used, and that it is pinned: one question has one answer.
-use mathlib.Core.Path.{_≡_, refl}
+use mathlib.Core.Path.{_≡_, refl, sym, subst}
 use mathlib.Core.Bool.{Bool, true, false}
-use Rattle.theory_lists.specs.Says.{Says, Outcome}
+use Rattle.theory_lists.specs.Says.{Says, Given, Outcome}
 
 pub says-true : {b : Bool} {P : Type 0} → Says b P → b ≡ true → P
 says-true {b} {P} s e = rw e at s
@@ -40,3 +40,21 @@ module _ {ok : Bool} {P X Y : Type 0} (o : Outcome ok P X Y) where
 
   pub refused-where : (P → ⊥) → (ok ≡ false) × Y
   refused-where n = let e = false-where ok (o .asked) n in (e, refused e .1)
+
+-- the same answer in other words: what was asked, and what each outcome says
+pub outcome-alike : {ok : Bool} {P Q X Z Y W : Type 0} → (P → Q) → (Q → P) → (P → X → Z) → (Y → W) → Outcome ok P X Y → Outcome ok Q Z W
+outcome-alike {ok} {P} {Q} {X} {Z} {Y} {W} to from given left o = record { asked = says-alike ok to from (o .asked); given = by ok (o .asked) (o .given) }
+  where
+    by : (b : Bool) → Says b P → Given b X Y → Given b Z W
+    by true p x = given p x
+    by false n y = left y
+
+-- two answers to one question are both ok or both refused; so they are equal in what both outcomes settle
+pub outcome-pinned : {ok ok′ : Bool} {P X X′ Y Y′ E : Type 0} → Outcome ok P X Y → Outcome ok′ P X′ Y′ → (X → X′ → E) → (Y → Y′ → E) → (ok ≡ ok′) × E
+outcome-pinned {ok} {ok′} {P} {X} {X′} {Y} {Y′} {E} o o′ given left =
+    let e = pinned-says ok ok′ P (o .asked) (o′ .asked) in
+    (e, by ok (o .given) (subst (λ (b : Bool). Given b X′ Y′) (sym e) (o′ .given)))
+  where
+    by : (b : Bool) → Given b X Y → Given b X′ Y′ → E
+    by true x x′ = given x x′
+    by false y y′ = left y y′

@@ -95,11 +95,14 @@ valid-ends (b ∷ c ∷ cs) s p =
     let e = r .1 .1 .1 in
     (r .0, (b ∷ r .1 .0, (ap (λ (l : List ℕ). b ∷ l) (r .1 .1 .0), (e .0, (form b ++ e .1 .0, append-assoc (form b) (e .1 .0) (form (r .0)) ∙ ap (λ (l : List ℕ). form b ++ l) (e .1 .1))))))
 
-pub ends-unique : (s : List ℕ) (k : ℕ) → Back s k → (c d : ℕ) → Ends c s → Ends d s → c ≡ d
-ends-unique s k b c d e f =
-    let g : drop (length s - k) s ≡ form c = rw (back-ends s c e k b) (ends-form s c e) in
-    let h : drop (length s - k) s ≡ form d = rw (back-ends s d f k b) (ends-form s d f) in
-    begins-unique (form c) c d (e .0, ([], append-nil (form c))) (f .0, ([], append-nil (form d) ∙ sym h ∙ g))
+-- a shorter form would begin inside the longer one
+pub ends-unique : (s : List ℕ) (c d : ℕ) → Ends c s → Ends d s → c ≡ d
+ends-unique s c d e f =
+    let not-less : len c < len d → ⊥ = λ h. ahead-not-follows s c e (behind-follows s d f (len c) (len-some c) h) in
+    let not-more : len d < len c → ⊥ = λ h. ahead-not-follows s d f (behind-follows s c e (len d) (len-some d) h) in
+    let same : len c ≡ len d = omega arith in
+    let g : form c ≡ form d = sym (ends-form s c e) ∙ rw same (ends-form s d f) in
+    begins-unique (form c) c d (e .0, ([], append-nil (form c))) (f .0, ([], append-nil (form d) ∙ sym g))
 
 -- a last byte that is no 10xxxxxx is ASCII
 pub last-ascii : (s : List ℕ) (c : ℕ) → Ends c s → (Follows (getD s (length s - 1) 0) → ⊥) → getD s (length s - 1) 0 < 0x80

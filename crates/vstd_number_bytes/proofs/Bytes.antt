@@ -15,6 +15,7 @@ use lib.Pow.{shl-exact, shr-shr}
 use lib.Seq.{take-suc, take-all, length-take-le}
 use Rattle.theory_digits.specs.Digits.{digits, value, AllBelow}
 use Rattle.theory_digits.proofs.Digits.{length-digits, digits-below, value-below, value-of-digits, digits-of-value}
+use Rattle.theory_digits.proofs.Reading.{below-each}
 use Rattle.theory_digits.proofs.Parts.{value-push-highest, below-take, below-at}
 use Rattle.theory_digits.proofs.Bases.{power-of-power}
 use Rattle.vstd_number_bytes.specs.Bytes.{masked-bytes, spec-to-le-bytes, joined-bytes, spec-from-le-bytes, from-le-bytes}
@@ -82,9 +83,10 @@ to-from-le-bytes w count s fits h l =
 
 -- ---- the functions
 
-pub from-le-bytes-kept : (w count : ℕ) (s : List ℕ) → suc count * 8 ≤ w → AllBelow 256 s → number 256 (suc count) s ≡ from-le-bytes w count s
+-- of bytes, which the elements of a slice are by their type
+pub from-le-bytes-kept : (w count : ℕ) (s : List ℕ) → suc count * 8 ≤ w → ((i : ℕ) → getD s i 0 < 256) → number 256 (suc count) s ≡ from-le-bytes w count s
 unfolding number from-le-bytes only-if
-from-le-bytes-kept w count s fits h =
+from-le-bytes-kept w count s fits bytes =
     by-test (eqb (length s) (suc count))
-    (λ e. rw (e, from-le-bytes-is w count fits s h (eqb-true (length s) (suc count) e)))
+    (λ e. rw (e, from-le-bytes-is w count fits s (below-each 256 s bytes) (eqb-true (length s) (suc count) e)))
     (λ e. rw e)

@@ -5,7 +5,7 @@ use Rattle.promisebook_number_bytes.proofs.pb_u32_from_le_bytes.Stateme
 use Rattle.promisebook_number_bytes.proofs.pb_u32_from_le_bytes.Tie as tie
 
 returns : tie.Need-returns
-returns c = λ h. rw (from-le-bytes-kept 32 3 _ (lit≤ tt) h) at (c .from-le-bytes .ensures)
+returns c = rw (from-le-bytes-kept 32 3 _ (lit≤ tt) (λ i. c .before .shared-slice-known .given i .fits)) at (c .from-le-bytes .ensures)
 
 pub pb-u32-from-le-bytes-spec : {M : Type 1} → statement M
 pb-u32-from-le-bytes-spec = tie.close (tie.spec (λ c κs. search needs) returns)
