@@ -31,9 +31,13 @@ LONGEST = 110  # characters of a cell, but for the wrong answers, which are a li
 
 # ---- vstd's text
 
+EVERYWHERE = ("no_unwind", "opens_invariants")  # clauses that stand at many promises, in lines of their own
+
+
 def upstream_items(file, text):
-    """A file's items, in order: `FILE SCOPE::NAME`. The scope is u or i inside a macro's module for unsigned or signed types."""
-    scope, found = "", []
+    """A file's items, in order: `FILE SCOPE::NAME`, each with those of the clauses EVERYWHERE that stand at it. The scope is u or i inside a macro's module for
+    unsigned or signed types."""
+    scope, found, marks = "", [], {}
     for line in text.split("\n"):
         module = re.match(r"\s*(?:pub )?mod \$mod(?:name)?_([ui])(?:_tmp)? \{", line)
         if module:
@@ -44,11 +48,14 @@ def upstream_items(file, text):
             found.append(scope + re.sub(r".*::", "", promise.group(1).strip()) if scope else short_path(promise.group(1)))
         elif function:
             found.append(scope + function.group(1))
+        for clause in EVERYWHERE:
+            if re.match(r"\s*%s\b" % clause, line):
+                marks.setdefault(len(found) - 1, []).append(clause)
     found.extend(re.findall(r"^\w+!\(\s*(lemma_\w+),", text, re.M))
     seen = {}
-    for item in found:
+    for place, item in enumerate(found):
         seen[item] = seen.get(item, 0) + 1
-        yield file + " " + item + ("" if seen[item] == 1 else " (%d)" % seen[item])
+        yield file + " " + item + ("" if seen[item] == 1 else " (%d)" % seen[item]), marks.get(place, [])
 
 
 def short_path(text):
@@ -59,18 +66,21 @@ def short_path(text):
 
 
 def upstream(faults):
-    listed = [line for line in contracts.read(os.path.join(HERE, "upstream.txt")).split("\n") if line and not line.startswith("#")]
+    """vstd's items, each with the clauses that stand everywhere: {item: clauses}."""
+    lines = [line.split(" : ") for line in contracts.read(os.path.join(HERE, "upstream.txt")).split("\n") if line and not line.startswith("#")]
+    listed = {line[0]: line[1].split() if len(line) > 1 else [] for line in lines}
     if not os.path.isdir(VSTD):
         print("docs: vstd's text is not at hand; docs/upstream.txt stands in")
         return listed
-    found = []
+    found = {}
     for path in sorted(glob.glob(os.path.join(VSTD, "*.rs.txt"))):
-        found.extend(upstream_items(os.path.basename(path)[: -len(".rs.txt")], contracts.read(path)))
+        found.update(upstream_items(os.path.basename(path)[: -len(".rs.txt")], contracts.read(path)))
     if "--items" in sys.argv:
-        print("\n".join(found))
+        print("\n".join(" : ".join([item] + ([" ".join(clauses)] if clauses else [])) for item, clauses in found.items()))
         sys.exit(0)
-    for item in sorted(set(found) ^ set(listed)):
-        faults.append("docs/upstream.txt: %s: %s" % (item, "is missing" if item in found else "is not in vstd's text"))
+    for item in sorted(set(found) | set(listed)):
+        if found.get(item) != listed.get(item):
+            faults.append("docs/upstream.txt: %s: %s" % (item, "is missing" if item not in listed else "is not in vstd's text" if item not in found else "other clauses stand at it"))
     return found
 
 
@@ -249,12 +259,16 @@ def check_words(text, library):
 
 def check_whole(rows, files, markdown, library):
     """Every item taken up, every public function and every must-fail edit has a row, and the document is what the source makes."""
-    covered = {item for row in rows for item in items(row)}
+    covered = {item for row in rows for item in items(row) if not row.get("clause", "").startswith(EVERYWHERE)}
+    said = {(item, clause) for row in rows for item in items(row) for clause in EVERYWHERE if row.get("clause", "").startswith(clause)}
     functions = {name for row in rows for field in ("export", "operation") for name in named(row, field)}
     tried = {edit for row in rows for edit in refused(row)}
     for item in library.items:
         if item.split(" ")[0] in TAKEN_UP and item not in covered:
             yield "docs/contracts: no row for %s" % item
+        for clause in library.items[item]:
+            if item.split(" ")[0] in TAKEN_UP and (item, clause) not in said:
+                yield "docs/contracts: no row for %s of %s" % (clause, item)
     for name in sorted(set(library.functions) - functions):
         yield "docs/contracts: no row names the function %s" % name
     for edit in sorted(library.edits - tried):
@@ -324,6 +338,7 @@ DAMAGES = [
     ("A", "clause: the product modulo 2^w\nrestated: vstd_integers/Unsigned.wrapping-mul\n", "restated: vstd_integers/Unsigned.wrapping-mul\nclause: the product modulo 2^w\n", "not in the order"),
     ("A", "theory_whole/Order.numbered)", "theory_whole/Order.counted)", "theory_whole/Order.counted does not exist"),
     ("A", "law: vstd_integers/Compare.cmp-kept\n", "", "no law leads from the contract"),
+    ("D", "<[T]>::{first,last,first_mut,", "<[T]>::{first,first_mut,", "no row for no_unwind of std_specs--slice <[T]>::last"),
     ("B", "law: vstd_zeros/Zeros.vstd-trailing-ones-is\n", "law: vstd_zeros/Zeros.vstd-trailing-zeros-is\n", "does not conclude"),
     ("B", "law: vstd_zeros/Zeros.trailing-zeros-facts\n", "law: theory_digits/Facts.low-facts\n", "does not conclude"),
     ("B", "law: vstd_zeros/Zeros.vstd-trailing-zeros-unfolds, vstd-trailing-zeros-is\n", "law: vstd_zeros/Zeros.vstd-trailing-zeros-unfolds\n", "names anything of ours"),
@@ -344,10 +359,10 @@ def selftest(files, others, library):
             yield "docs/check.py: damage goes unnoticed: %r for %r, with no fault that says %r" % (new.strip(), old.strip(), expected)
     if not check(files, contracts.document(files) + "\n", others, library)[0]:
         yield "docs/check.py: a changed docs/CONTRACTS.md goes unnoticed"
-    for old, new in (("Slices.longer-clause-open", "Slices.longer-clause-closed"), ("`split_at_mut`", "`split_at_must`")):
+    for old, new in ((".longer-clause-open", ".longer-clause-closed"), ("`split_at_mut`", "`split_at_must`")):
         damaged = {name: text.replace(old, new) for name, text in others.items()}
         if not check(files, contracts.document(files), damaged, library)[0]:
-            yield "docs/check.py: %s for %s in docs/FINDINGS.md goes unnoticed" % (new, old)
+            yield "docs/check.py: damage goes unnoticed, or cannot be done: %s for %s in docs/FINDINGS.md" % (new, old)
 
 
 def main():

@@ -130,7 +130,7 @@ def cell(row, field):
         return ""
     text = text.replace("|", "\\|")
     if field == "item":
-        return "**%s**" % text.replace("*", "\\*").replace("<", "&lt;").replace("_", "\\_")
+        return "**%s**" % text if text == "beyond vstd" else "**`%s`**" % text
     if field == "verdict":
         word, colon, reason = text.partition(":")
         return "*%s*%s%s" % (word, colon, reason)
