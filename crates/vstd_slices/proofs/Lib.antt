@@ -1,3 +1,4 @@
+pub mod Worked
 pub mod Sequences
 pub mod Clauses
 pub mod Tests

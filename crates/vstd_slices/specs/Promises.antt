@@ -3,7 +3,7 @@
 use mathlib.Core.Path.{_≡_}
 use mathlib.Core.Bool.{Bool, false}
 use mathlib.Core.List.{List}
-use Prim.Native.Nat.{ℕ, _+_, _-_, _≤_, _<_, min}
+use Prim.Native.Nat.{ℕ, suc, _+_, _-_, _≤_, _<_, min}
 use lib.ListN.{length, getD}
 use Rattle.theory_lists.specs.Says.{Says, Outcome}
 use Rattle.theory_lists.specs.Part.{part, Within, Has}
