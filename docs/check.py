@@ -168,7 +168,8 @@ def check_names(row, library):
 
 
 def check_law(row, library):
-    """A law concludes the row's restated clause; where the row has operations, one of its laws also names what stands in their contracts, or in the export's."""
+    """A law concludes the row's restated clause; where the row has operations, one of its laws also names what stands in their contracts, or in the export's;
+    elsewhere one names something of ours, unless it is the row's own item, a lemma of vstd's proved under its name."""
     restated = {word(name) for name in named(row, "restated")}
     laws = [library.said[name] for name in named(row, "law") if name in library.said]
     if laws and not restated:
@@ -184,9 +185,14 @@ def check_law(row, library):
         if named(row, "operation"):
             tied = tied or any(library.said[name].conclusion != "Kind" for name in others & ours)
         else:
-            tied = tied or bool(others) or free_side(law, restated) or not all(name.startswith("vstd_") for name in concluded)
+            tied = tied or bool(others) or free_side(law, restated) or not all(name.startswith("vstd_") for name in concluded) or is_item(law, row)
     if not tied:
         yield "no law of it names what stands in the contract of %s" % row["operation"] if "operation" in row else "no law of it names anything of ours"
+
+
+def is_item(law, row):
+    """Whether a law has the name of an item of the row, with dashes."""
+    return law.name.split(".")[-1] in {item.split(" ", 1)[1].replace("lemma_", "").replace("_", "-") for item in items(row)}
 
 
 def joins_nothing(law, library):

@@ -125,6 +125,8 @@ def statements(path, crate, file):
                 break
             rest.append(following.strip())
         kind = pieces(" ".join(rest))
+        if kind[-1] == "⊥" and len(kind) > 1:  # what is refuted is concluded
+            kind[-2:] = [kind[-2] + " → ⊥"]
         hypotheses = [one for _, telescope in modules for one in binders(telescope)] + binders(signature.group(7).strip()) + [one for piece in kind[:-1] for one in binders(piece)]
         marked = signature.group(2) or signature.group(4) or signature.group(5)
         found.append((signature.group(6), bool(marked) or kind[-1].startswith("Type"), hypotheses, kind[-1]))
