@@ -330,7 +330,7 @@ DAMAGES = [
     ("A", "export: pb_uN_wrapping_sub\n", "export: pb_u{8,16,32,64}_wrapping_sub\n", "no row names the function pb_usize_wrapping_sub"),
     ("A", "item: std_specs/num u::wrapping_sub\n", "item: std_specs/num u::wrapping_less\n", "vstd has no item"),
     ("A", "item: std_specs/num u::checked_mul\n", "item: std_specs/num u::checked_sub\n", "no row for std_specs--num u::checked_mul"),
-    ("A", "pinned: vstd_integers/Pinned.pinned-unsigned\n", "pinned: theory_whole/Fit.Answers\n", "which is a definition"),
+    ("A", "pinned: vstd_integers/Pinned.pinned-unsigned\n", "pinned: theory_whole/Fit.wrap\n", "which is a definition"),
     ("A", "pinned: vstd_integers/Pinned.pinned-unsigned\n", "pinned: theory_whole/Wrap.wrap-is\n", "does not pin"),
     ("A", "pinned: vstd_integers/Pinned.pinned-unsigned\n", "pinned: theory_text/Ends.begins-unique\n", "is not of this row"),
     ("A", "pinned: vstd_integers/Pinned.pinned-unsigned\n", "", "its export is not pinned"),
