@@ -244,7 +244,7 @@ def check_pinned(row, library):
             yield "%s does not pin: it has no two hypotheses of one definition, or concludes no equation" % name
         elif not any(head.startswith("≡") or head in near for head in both):
             yield "%s pins %s, which is not of this row" % (name, " and ".join(sorted(both)))
-    if "export" in row and row.get("item") != BEYOND and not row["verdict"].startswith("refused") and "pinned" not in row:
+    if "export" in row and row.get("item") != BEYOND and not row.get("verdict", "").startswith("refused") and "pinned" not in row:
         yield "its export is not pinned"
 
 
