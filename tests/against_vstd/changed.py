@@ -1,0 +1,61 @@
+"""A test that cannot fail is none: one clause of each of vstd's files is changed in memory, and one definition of each restated file, and each change must be found."""
+from typing import NamedTuple
+
+from antt_values import Definitions
+from faults import Fault
+from items import Items
+from rust_values import Library
+
+
+class Change(NamedTuple):
+    what: str
+    where: str  # vstd's file, or the restated one
+    old: str
+    new: str
+    item: str  # the item that must be found to differ
+
+
+CLAUSES = (
+    Change("the wrong division", "std_specs--num", "rust_rem(lhs as int, rhs as int)", "(lhs % rhs)", "std_specs--num i8::checked_rem"),
+    Change("a missing refusal", "std_specs--num", "rhs == 0 || (lhs == <$iN>::MIN && rhs == -1)", "rhs == 0", "std_specs--num i16::checked_div"),
+    Change("a bound off by one", "wrapping", "x + y > <$uN>::MAX", "x + y >= <$uN>::MAX", "wrapping u8_specs::wrapping_add"),
+    Change("a width that is another's", "wrapping", "x << (shift % $bits)", "x << (shift % 8u32)", "wrapping u16_specs::wrapping_shl"),
+    Change("another mask", "std_specs--bits", "(i & 1)", "(i & 2)", "std_specs--bits u8::trailing_zeros"),
+    Change("a fact about another bit", "std_specs--bits", "sub(7u8,", "sub(6u8,", "std_specs--bits axiom_u8_leading_zeros"),
+    Change("another mask", "bytes", "((x >> 8) & 0xff)", "((x >> 8) & 0x7f)", "bytes u16_to_le_bytes"),
+    Change("a bound off by one", "utf8", "0xD800 <= codepoint", "0xD801 <= codepoint", "utf8 valid_utf8"),
+    Change("a test left out", "utf8", "&&& (len == 2 ==> 0x80 <= codepoint)", "", "utf8 valid_utf8"),
+    Change("another character", "std_specs--char", r"'\u{205F}'", r"'\u{205E}'", "std_specs--char char::is_whitespace"),
+)
+DEFINITIONS = (
+    Change("a bound off by one", "Unsigned", "refused (value (x *ℤ y))", "refused (value (x +ℤ y))", "std_specs--num u8::checked_mul"),
+    Change("the wrong division", "Signed", "(remZ lhs rhs)", "(emod lhs rhs)", "std_specs--num i8::checked_rem"),
+    Change("the other way round", "Compare", "cond (ltZ y x) Greater Equal", "cond (ltZ y x) Equal Greater", "std_specs--num i64::cmp"),
+    Change("a step too few", "Zeros", "cond (eqb i 0) w (leading", "cond (eqb i 1) w (leading", "std_specs--bits u8::leading_zeros"),
+    Change("another mask", "Bytes", " 255 ∷", " 254 ∷", "bytes u32_to_le_bytes"),
+    Change("another character", "Text", "0x3000", "0x3001", "std_specs--char is_white_space"),
+)
+
+
+def replaced(change, text):
+    if change.old not in text:
+        raise Fault("%s: what should be changed (%s) does not stand there: give tests/against_vstd/changed.py another place" % (change.where, change.what))
+    return text.replace(change.old, change.new, 1)
+
+
+def found(change, library, definitions):
+    for check in Items(library, definitions).checks():
+        if check.item.key == change.item:
+            for difference in check.differences():
+                return difference
+    raise Fault("%s of %s, changed in memory, is not found out: %s" % (change.what, change.where, change.item))
+
+
+def all_found(texts, root, library, definitions):
+    """What is found for each change: that it differs, and where."""
+    for change in CLAUSES:
+        changed = {file: replaced(change, text) if file == change.where else text for file, text in texts.items()}
+        yield change, found(change, Library(changed), definitions)
+    for change in DEFINITIONS:
+        path = definitions.restated(change.where).file
+        yield change, found(change, library, Definitions(root, {path: replaced(change, definitions.text(path))}))

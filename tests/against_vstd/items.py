@@ -1,0 +1,192 @@
+"""Which of vstd's items are taken up, and how: each is held against a restated definition, or stands in LEFT_OUT with the reason. An item in neither place is a fault."""
+import itertools
+import re
+
+import arguments
+from checks import Definition, Facts, Promise, Statement
+from exports import exports
+from faults import Fault
+from verus import MACHINE
+
+FILES = ("std_specs--num", "wrapping", "std_specs--bits", "bytes", "utf8", "std_specs--char")
+RESTATED = ("Unsigned", "Signed", "Compare", "Zeros", "Bytes", "Text")
+
+LEFT_OUT = (
+    (re.compile(r"[ui]128"), "128 bits are not here yet"),
+    (re.compile(r" group_\w+$"), "a list of lemmas, each of which is an item of its own"),
+)
+
+# For unsigned numbers both pairs of divisions are one, and so is their promise.
+SAME_PROMISE = {("Unsigned", "checked-div-euclid"): "checked-div", ("Unsigned", "checked-rem-euclid"): "checked-rem"}
+
+# What vstd's traits of comparing (std_specs/cmp) read off the three definitions that each type gives them.
+LESS, EQUAL, GREATER = (("Some", (name,)) for name in ("Less", "Equal", "Greater"))
+READ_OFF = {
+    "eq": lambda eq, cmp, partial: eq,
+    "ne": lambda eq, cmp, partial: not eq,
+    "cmp": lambda eq, cmp, partial: cmp,
+    "partial_cmp": lambda eq, cmp, partial: partial,
+    "lt": lambda eq, cmp, partial: partial == LESS,
+    "le": lambda eq, cmp, partial: partial in (LESS, EQUAL),
+    "gt": lambda eq, cmp, partial: partial == GREATER,
+    "ge": lambda eq, cmp, partial: partial in (GREATER, EQUAL),
+}
+OBEYS = ("obeys_eq_spec", "obeys_cmp_spec", "obeys_partial_cmp_spec")
+
+
+def left_out(item):
+    return next((reason for pattern, reason in LEFT_OUT if pattern.search(item.key)), None)
+
+
+def kind_of(item):
+    """The machine type that an item is about: u8 of `u8::f`, `u8_specs::f`, `u8_trailing_zeros`, `spec_u8_to_le_bytes`."""
+    found = re.search(r"(?:^|[ _])([ui](?:8|16|32|64|size))(?=_|::|$)", item.key)
+    if not found:
+        raise Fault("%s, line %d: %s is about no machine type" % (item.file, item.line, item.key))
+    return found.group(1)
+
+
+class Items:
+    def __init__(self, library, definitions):
+        self.library, self.definitions = library, definitions
+        self.compared = set()  # restated definitions that a check compares: (module's file, name)
+
+    def ours(self, module_name, name, *first):
+        """A restated definition, given its first arguments."""
+        module = self.definitions.restated(module_name)
+        dashed = name.replace("_", "-")
+        names = [SAME_PROMISE.get((module_name, dashed), dashed), dashed[0].upper() + dashed[1:]]
+        found = next((each for each in names if each in module.functions or each in module.records), None)
+        if not found:
+            raise Fault("%s does not restate %s" % (module.file, name))
+        self.compared.add((module.file, found))
+        function = self.definitions.function(module, found)
+        return (lambda *given: function(*first, *given)) if first else function
+
+    def takes_width(self, module_name, name, given):
+        module = self.definitions.restated(module_name)
+        name = SAME_PROMISE.get((module_name, name.replace("_", "-")), name.replace("_", "-"))
+        return name in module.functions and self.definitions.parameters(module, name) > given
+
+    def checks(self):
+        found = []
+        for item in self.library.items:
+            if not left_out(item):
+                made = getattr(self, "of_" + item.file.replace("std_specs--", ""))(item)
+                if not made:
+                    raise Fault("%s, line %d: %s is neither taken up nor left out for a reason" % (item.file, item.line, item.key))
+                found += made if isinstance(made, list) else [made]
+        return found + exports(self.library)
+
+    # ---- integers
+
+    def integers(self, item):
+        """Arguments of a function of a type's numbers, or of whole numbers."""
+        if item.name in ("wrapping_shl", "wrapping_shr"):
+            return lambda: itertools.product(arguments.numbers(item.types[0]), arguments.distances(MACHINE[item.types[0]]))
+        if item.types == ("int",):
+            return lambda: ((number,) for number in arguments.wholes(MACHINE[kind_of(item)]))
+        if item.types == ("int", "int"):
+            return lambda: itertools.product(arguments.SMALL_WHOLES, repeat=2)
+        return lambda: itertools.product(*map(arguments.numbers, item.types))
+
+    def of_integers(self, item, module):
+        width = MACHINE[kind_of(item)] if self.takes_width(module, item.name, len(item.types)) else None
+        return self.ours(module, item.name, *([width] if width else []))
+
+    def of_wrapping(self, item):
+        module = "Signed" if kind_of(item)[0] == "i" else "Unsigned"
+        return Definition(self.library, item, self.of_integers(item, module), self.integers(item))
+
+    def of_num(self, item):
+        if item.key == "std_specs--num next_multiple_of":
+            return Definition(self.library, item, self.ours("Unsigned", item.name), self.integers(item))
+        if item.name in OBEYS:
+            return Definition(self.library, item, lambda: True, lambda: [()])
+        if item.name.endswith("_spec"):
+            return Definition(self.library, item, self.compare(item.name.removesuffix("_spec")), self.integers(item))
+        if item.name in READ_OFF and not item.ensures and item.returns is None:
+            return self.read_off(item)
+        if item.kind == "promise" and item.name == "clone":
+            return Promise(self.library, item, self.ours("Compare", "clone"), self.integers(item))
+        if item.kind == "spec":
+            return self.of_wrapping(item)
+        if item.kind == "promise" and item.owner in MACHINE:
+            module = "Signed" if item.owner[0] == "i" else "Unsigned"
+            return Promise(self.library, item, self.of_integers(item, module), self.integers(item), "%s.%s" % (item.owner, item.name))
+        return None
+
+    def compare(self, name):
+        if name != "partial_cmp":
+            return self.ours("Compare", name)
+        cmp = self.ours("Compare", "cmp")
+        return lambda x, y: ("Some", cmp(x, y))
+
+    def read_off(self, item):
+        eq, cmp, partial = (self.library.value(self.library.keyed["%s %s::%s" % (item.file, item.owner, name)]) for name in ("eq_spec", "cmp_spec", "partial_cmp_spec"))
+        rule = READ_OFF[item.name]
+        asked = item.owner + ".compare" if item.name == "cmp" else None
+        return Promise(
+            self.library, item, self.compare(item.name), self.integers(item), asked, lambda x, y, result: result == rule(eq(x, y), cmp(x, y), partial(x, y)),
+        )
+
+    # ---- zeros and ones
+
+    def of_bits(self, item):
+        kind = kind_of(item)
+        width, operation = MACHINE[kind], item.name.split(kind + "_")[-1]
+        every = lambda: ((number,) for number in (range(1 << width) if width <= 16 else arguments.every_power(kind)))
+        if item.kind == "proof":
+            module, record = self.definitions.restated("Zeros"), operation.title().replace("_", "") + "Facts"
+            if record not in module.records:
+                raise Fault("%s does not restate %s" % (module.file, item.name))
+            self.compared.add((module.file, record))
+            edges = lambda *_: ((number,) for number in arguments.every_power(kind))
+            facts = self.definitions.facts(module, record)
+            return [Facts(self.library, item, "%s_%s" % (kind, operation), facts, width, edges), Statement(self.library, item, edges)]
+        ours = self.ours("Zeros", "vstd-" + operation, width)
+        if item.kind == "spec":
+            return Definition(self.library, item, ours, every)
+        return Promise(self.library, item, ours, every, "%s.%s" % (item.owner, item.name)) if item.kind == "promise" else None
+
+    # ---- bytes of a number
+
+    def of_bytes(self, item):
+        kind = kind_of(item)
+        width, count, reads = MACHINE[kind], MACHINE[kind] // 8, "from_le_bytes" in item.name
+        numbers = lambda: ((number,) for number in arguments.every_power(kind))
+        lists = lambda: ((given,) for given in arguments.short_lists())
+        if item.kind == "proof":
+            by_type = {(kind,): numbers, (arguments.BYTES,): lists}
+            return Statement(self.library, item, lambda kinds: by_type[kinds]())
+        if item.kind == "spec":
+            ours = self.ours("Bytes", "spec-from-le-bytes", width, count - 1) if reads else self.ours("Bytes", "spec-to-le-bytes", count)
+            exactly = lambda: ((given,) for given in arguments.short_lists() if len(given) == count)
+            return Definition(self.library, item, ours, exactly if reads else numbers)
+        if item.kind == "exec":
+            asked = "%s.%s_le_bytes" % (kind, "from" if reads else "to")
+            ours = self.ours("Bytes", "from-le-bytes", width, count - 1) if reads else self.ours("Bytes", "spec-to-le-bytes", count)
+            return Promise(self.library, item, ours, lists if reads else numbers, asked)
+        return None
+
+    # ---- text
+
+    def of_utf8(self, item):
+        if item.kind == "proof":
+            return Statement(self.library, item, arguments.tried)
+        if item.kind != "spec":
+            return None
+        natural = item.types[1:] == ("int",)
+        given = lambda: (each for each in arguments.tried(item.types) if not natural or each[1] >= 0)
+        return Definition(self.library, item, self.ours("Text", item.name), given)
+
+    def of_char(self, item):
+        every = lambda: ((char,) for char in arguments.scalars())
+        if item.key == "std_specs--char is_white_space":
+            return Definition(self.library, item, self.ours("Text", item.name), lambda: ((char,) for char in range(0x3100)))
+        if item.key == "std_specs--char char::is_whitespace":
+            return Promise(self.library, item, self.ours("Text", "is_white_space"), every, "text.is_white_space")
+        if item.key == "std_specs--char char::len_utf8":
+            form = self.ours("Text", "encode_scalar")
+            return Promise(self.library, item, lambda char: len(form(char)), every, "text.scalar_len")
+        return None
