@@ -10,6 +10,7 @@ from antt_text import module_of
 from faults import Fault, NotUnderstood
 
 THEIRS = re.compile(r"Rattle·(\w+?)(?:·specs)?\.specs\.(.+)$")
+RESTATING = ("promisebook", "vstd_*")
 REMEMBERED = 1 << 12
 
 
@@ -35,15 +36,14 @@ class Definitions:
                 self.read[path] = file.read()
         return self.changed.get(path, self.read[path])
 
-    def restated(self, name):
-        """The one specs file of that name outside of the theory crates."""
-        if name not in self.places:
-            found = [os.path.relpath(path, self.root) for path in glob.glob(os.path.join(self.root, "crates", "*", "specs", name + ".antt"))]
-            found = [path for path in found if not path.startswith(os.path.join("crates", "theory_"))]
-            if len(found) != 1:
-                raise Fault("%d files crates/*/specs/%s.antt outside of the theory crates, where there should be one" % (len(found), name))
-            self.places[name] = found[0]
-        return self.module(self.places[name])
+    def restated(self, names):
+        """The modules of these names, of those that are there: all in one of the crates that restate vstd."""
+        if names not in self.places:
+            patterns = [os.path.join(self.root, "crates", crate, "specs", name + ".antt") for crate in RESTATING for name in names]
+            self.places[names] = [os.path.relpath(path, self.root) for pattern in patterns for path in glob.glob(pattern)]
+            if len({os.path.dirname(path) for path in self.places[names]}) != 1:
+                raise Fault("%s.antt should be in the specs of one of the crates %s: %s" % (" or ".join(names), ", ".join(RESTATING), " ".join(self.places[names]) or "it is in none"))
+        return [self.module(path) for path in self.places[names]]
 
     def module(self, path):
         if path not in self.modules:

@@ -3,7 +3,7 @@ from typing import NamedTuple
 
 from antt_values import Definitions
 from faults import Fault
-from items import Items
+from items import RESTATED, Items
 from rust_values import Library
 
 
@@ -28,12 +28,21 @@ CLAUSES = (
     Change("another character", "std_specs--char", r"'\u{205F}'", r"'\u{205E}'", "std_specs--char char::is_whitespace"),
 )
 DEFINITIONS = (
-    Change("a bound off by one", "Unsigned", "refused (value (x *ℤ y))", "refused (value (x +ℤ y))", "std_specs--num u8::checked_mul"),
+    Change("the wrong test", "Unsigned", "ltZ (MAX w) (x *ℤ y)", "ltZ (MAX w) (x +ℤ y)", "std_specs--num u8::checked_mul"),
     Change("the wrong division", "Signed", "(remZ lhs rhs)", "(emod lhs rhs)", "std_specs--num i8::checked_rem"),
     Change("the other way round", "Compare", "cond (ltZ y x) Greater Equal", "cond (ltZ y x) Equal Greater", "std_specs--num i64::cmp"),
     Change("a step too few", "Zeros", "cond (eqb i 0) w (leading", "cond (eqb i 1) w (leading", "std_specs--bits u8::leading_zeros"),
     Change("another mask", "Bytes", " 255 ∷", " 254 ∷", "bytes u32_to_le_bytes"),
     Change("another character", "Text", "0x3000", "0x3001", "std_specs--char is_white_space"),
+)
+# What is not understood is refused, by a fault that says `item`.
+REFUSED = (
+    Change("a form that is not known", "std_specs--bits", "forall|j: u8|", "exists|j: u8|", "not understood"),
+    Change("a function that is not known", "std_specs--num", "rust_div(", "rust_quotient(", "not understood: the function rust_quotient"),
+    Change("a type that does not fit", "wrapping", "x << (shift % $bits)", "(x + 0) << (shift % $bits)", "not understood: a shift of int"),
+    Change("an attribute that is not known", "std_specs--char", "#[verifier::allow_in_spec]", "#[only_on(tuesdays)]", "not understood: the attribute"),
+    Change("an item that nobody takes up", "std_specs--char", "} // verus!", "pub proof fn lemma_of_chars(c: char) ensures c == c { } }", "neither taken up nor left out"),
+    Change("an item that is restated nowhere", "utf8", "/* ASCII */", "pub open spec fn is_nothing(b: u8) -> bool { false }", "does not restate is-nothing"),
 )
 
 
@@ -51,11 +60,26 @@ def found(change, library, definitions):
     raise Fault("%s of %s, changed in memory, is not found out: %s" % (change.what, change.where, change.item))
 
 
+def all_refused(texts, definitions):
+    """The fault that each change to something unknown brings about."""
+    for change in REFUSED:
+        changed = {file: replaced(change, text) if file == change.where else text for file, text in texts.items()}
+        try:
+            checks = Items(Library(changed), definitions).checks()
+        except Fault as fault:
+            if change.item not in str(fault):
+                raise
+            yield change, fault
+        else:
+            raise Fault("%s in %s, changed in memory, is passed over: %d checks" % (change.what, change.where, len(checks)))
+
+
 def all_found(texts, root, library, definitions):
     """What is found for each change: that it differs, and where."""
     for change in CLAUSES:
         changed = {file: replaced(change, text) if file == change.where else text for file, text in texts.items()}
         yield change, found(change, Library(changed), definitions)
     for change in DEFINITIONS:
-        path = definitions.restated(change.where).file
+        paths = [module.file for module in definitions.restated(RESTATED[change.where])]
+        path = next((path for path in paths if change.old in definitions.text(path)), paths[0])
         yield change, found(change, library, Definitions(root, {path: replaced(change, definitions.text(path))}))

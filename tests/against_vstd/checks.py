@@ -1,9 +1,10 @@
 """The ways in which vstd's items are held against ours. Each check goes through its arguments, yields what differs, and may leave questions for `ask` with the right answers."""
 from typing import Any, NamedTuple
 
-from faults import LeftOpen
+from faults import Fault, LeftOpen
 
-OPTION = {"refused": "None", "value": "Some"}
+
+REFUSED = ("refused",)
 
 
 class Difference(NamedTuple):
@@ -31,7 +32,7 @@ def answer(value):
     if isinstance(value, int):
         return str(value)
     if value and isinstance(value[0], str):
-        return str(value[1]) if value[0] == "value" else value[0].lower()
+        return str(value[1]) if len(value) == 2 else value[0].lower()
     return bytes(value).hex() or "-"
 
 
@@ -48,22 +49,21 @@ def value_or_open(function, *given):
         return "leaves it open: %s" % why
 
 
-def as_option(value):
-    return (OPTION[value[0]], *value[1:])
-
-
 class Check:
     """`clauses` of vstd's item are tried at each of `arguments()`."""
 
     def __init__(self, item, clauses, arguments):
         self.item, self.clauses, self.arguments, self.tried, self.compared = item, clauses, arguments, 0, 0
+        self.is_ordering = item.result is not None and item.result[1] == "Ordering"
         self.to_option = item.result is not None and isinstance(item.result[1], tuple) and item.result[1][0] == "Option"
 
     def said(self, ours):
-        """An answer as vstd has it: an Option where its result is one, else the answer's value."""
-        if isinstance(ours, tuple) and ours and ours[0] in OPTION:
-            return as_option(ours) if self.to_option else ours[1] if len(ours) == 2 else None
-        return ours
+        """An answer as vstd has it: `refused` is None and another is Some where its result is an Option, else the answer's value stands for it."""
+        if not isinstance(ours, tuple) or not ours or not isinstance(ours[0], str) or self.is_ordering:
+            return ours
+        if self.to_option:
+            return ("None",) if ours == REFUSED else ("Some", *ours[1:])
+        return ours[1] if len(ours) == 2 else ours
 
     def differences(self, questions=None):
         raise NotImplementedError
@@ -100,7 +100,7 @@ class Promise(Check):
 
     def kept(self, given, ours):
         if self.required and not self.required(*given):
-            return ours == ("refused",)
+            return ours == REFUSED
         return value_or_open(self.keeps, *given, self.said(ours)) is True
 
     def differences(self, questions=None):
@@ -126,6 +126,7 @@ class Statement(Check):
 
     def differences(self, questions=None):
         for line, kinds, holds in self.stated:
+            before = self.compared
             for given in self.arguments(kinds):
                 self.tried += 1
                 if value_or_open(self.required, *given[: self.required_of]) is not True:
@@ -134,6 +135,25 @@ class Statement(Check):
                 truth = value_or_open(holds, *given)
                 if truth is not True:
                     yield Difference(self.item, given, "%s (line %d)" % (truth, line), "a lemma of vstd's")
+            if self.compared == before:
+                raise Fault("%s, line %d: %s was tried at nothing that it is about" % (self.item.file, line, self.item.name))
+
+
+class Requirement(Check):
+    """The first requirement of a lemma says the same as what restates it, wherever the others hold."""
+
+    def __init__(self, library, item, ours, arguments):
+        super().__init__(item, 1, arguments)
+        (self.theirs, *self.others), self.ours = library.each(item, "requires"), ours
+
+    def differences(self, questions=None):
+        for given in self.arguments():
+            self.tried += 1
+            if all(value_or_open(other, *given) is True for other in self.others):
+                self.compared += 1
+                theirs, ours = value_or_open(self.theirs, *given), self.ours(*given)
+                if theirs != ours:
+                    yield Difference(self.item, given, theirs, ours)
 
 
 class Facts(Check):

@@ -17,7 +17,7 @@ import changed
 import record
 from antt_values import Definitions
 from faults import Fault
-from items import FILES, RESTATED, Items, left_out
+from items import FILES, FILES_LEFT_OUT, RESTATED, WORDS_OF_OUR_OWN, Items, left_out
 from rust_values import Library
 
 HERE = os.path.dirname(os.path.abspath(__file__))
@@ -67,7 +67,10 @@ def vstd_texts():
         return None
     found = {}
     for name in FILES:
-        with open(os.path.join(VSTD, name + ".rs.txt"), encoding="utf-8") as file:
+        path = os.path.join(VSTD, name + ".rs.txt")
+        if not os.path.exists(path):
+            raise Fault("vstd's text lacks %s" % path)
+        with open(path, encoding="utf-8") as file:
             found[name] = file.read()
     return found
 
@@ -79,13 +82,17 @@ def report_left_out(library):
 
 
 def nothing_unread(items, definitions):
-    """Every definition of the restated files is compared, or a part of one that is."""
+    """Every definition of the restated files is compared, or a part of one that is; every specs file beside them is one of them, or left out for a reason."""
     reached = definitions.reached(items.compared)
-    for name in RESTATED:
-        module = definitions.restated(name)
-        for own in [*module.functions, *module.records]:
-            if (module.file, own) not in reached:
-                raise Fault("%s: %s is held against nothing of vstd's" % (module.file, own))
+    for names in RESTATED.values():
+        for module in definitions.restated(names):
+            for own in [*module.functions, *module.records]:
+                if (module.file, own) not in reached and own not in WORDS_OF_OUR_OWN:
+                    raise Fault("%s: %s is held against nothing of vstd's" % (module.file, own))
+            for file in os.listdir(os.path.join(definitions.root, os.path.dirname(module.file))):
+                name = file.removesuffix(".antt")
+                if name not in FILES_LEFT_OUT and not any(name in others for others in RESTATED.values()):
+                    raise Fault("%s beside %s is held against nothing of vstd's" % (file, module.file))
 
 
 def all_compared(checks, questions):
@@ -124,6 +131,8 @@ def compared(texts, command, renew):
         print("    %s\n        here %s\n        vstd %s" % entry)
     for change, difference in changed.all_found(texts, ROOT, library, definitions):
         print("changed in memory, %s: %s; found: %s" % (change.where, change.what, difference))
+    for change, fault in changed.all_refused(texts, definitions):
+        print("changed in memory, %s: %s; refused: %s" % (change.where, change.what, fault))
     if differences or questions.differing:
         return False
     found = list(record.lines(texts, definitions.read, counts))
@@ -139,8 +148,9 @@ def main():
     options = argparse.ArgumentParser(description=__doc__, formatter_class=argparse.RawDescriptionHelpFormatter)
     options.add_argument("program", nargs="?")
     options.add_argument("--record", action="store_true")
-    chosen, texts = options.parse_args(), vstd_texts()
+    chosen = options.parse_args()
     try:
+        texts = vstd_texts()
         if texts is None and chosen.record:
             raise Fault("vstd's text is not at %s" % VSTD)
         if texts is None:

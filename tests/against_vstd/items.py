@@ -1,20 +1,35 @@
 """Which of vstd's items are taken up, and how: each is held against a restated definition, or stands in LEFT_OUT with the reason. An item in neither place is a fault."""
+import functools
 import itertools
 import re
 
 import arguments
-from checks import Definition, Facts, Promise, Statement
+from checks import Definition, Facts, Promise, Requirement, Statement
 from exports import exports
 from faults import Fault
 from verus import MACHINE
 
 FILES = ("std_specs--num", "wrapping", "std_specs--bits", "bytes", "utf8", "std_specs--char")
-RESTATED = ("Unsigned", "Signed", "Compare", "Zeros", "Bytes", "Text")
+# the specs files that restate them, by family: what is there of these names
+RESTATED = {
+    "Unsigned": ("Unsigned",), "Signed": ("Signed",), "Compare": ("Compare",), "Zeros": ("Zeros",), "Bytes": ("Bytes",),
+    "Text": ("Text", "Decoding", "Encoding", "Places", "Characters"),
+}
 
 LEFT_OUT = (
     (re.compile(r"[ui]128"), "128 bits are not here yet"),
     (re.compile(r" group_\w+$"), "a list of lemmas, each of which is an item of its own"),
 )
+
+# Files beside these in the same crates, and definitions in these, that restate no item.
+FILES_LEFT_OUT = {
+    "Lib": "names the others",
+    "Slices": "of files that are not among the six",
+    "Promises": "what the exports promise, made of what is restated; they are asked",
+}
+WORDS_OF_OUR_OWN = {
+    "Chars": "that each number of a list is a scalar value, as the type Seq<char> says",
+}
 
 # For unsigned numbers both pairs of divisions are one, and so is their promise.
 SAME_PROMISE = {("Unsigned", "checked-div-euclid"): "checked-div", ("Unsigned", "checked-rem-euclid"): "checked-rem"}
@@ -31,6 +46,8 @@ READ_OFF = {
     "gt": lambda eq, cmp, partial: partial == GREATER,
     "ge": lambda eq, cmp, partial: partial in (GREATER, EQUAL),
 }
+# requirements of lemmas that may have names of their own here: the first clause of each
+REQUIREMENTS = {"partial_valid_utf8_extend_ascii_block": "Ascii-block"}
 OBEYS = ("obeys_eq_spec", "obeys_cmp_spec", "obeys_partial_cmp_spec")
 
 
@@ -51,22 +68,21 @@ class Items:
         self.library, self.definitions = library, definitions
         self.compared = set()  # restated definitions that a check compares: (module's file, name)
 
-    def ours(self, module_name, name, *first):
-        """A restated definition, given its first arguments."""
-        module = self.definitions.restated(module_name)
-        dashed = name.replace("_", "-")
-        names = [SAME_PROMISE.get((module_name, dashed), dashed), dashed[0].upper() + dashed[1:]]
-        found = next((each for each in names if each in module.functions or each in module.records), None)
-        if not found:
-            raise Fault("%s does not restate %s" % (module.file, name))
-        self.compared.add((module.file, found))
-        function = self.definitions.function(module, found)
-        return (lambda *given: function(*first, *given)) if first else function
+    def restating(self, family, *names):
+        """The restated definition of one of these names, and the module that has it."""
+        for module in self.definitions.restated(RESTATED[family]):
+            for name in names:
+                if name in module.functions or name in module.records:
+                    self.compared.add((module.file, name))
+                    return module, name
+        raise Fault("%s does not restate %s" % (" ".join(module.file for module in self.definitions.restated(RESTATED[family])), names[0]))
 
-    def takes_width(self, module_name, name, given):
-        module = self.definitions.restated(module_name)
-        name = SAME_PROMISE.get((module_name, name.replace("_", "-")), name.replace("_", "-"))
-        return name in module.functions and self.definitions.parameters(module, name) > given
+    def ours(self, family, name, *first, given=None):
+        """A restated definition, given its first arguments; where `given` says how many vstd's has, only if it takes more."""
+        dashed = name.replace("_", "-")
+        module, found = self.restating(family, SAME_PROMISE.get((family, dashed), dashed), dashed[0].upper() + dashed[1:])
+        function = self.definitions.function(module, found)
+        return functools.partial(function, *first) if given is None and first or given is not None and self.definitions.parameters(module, found) > given else function
 
     def checks(self):
         found = []
@@ -90,9 +106,8 @@ class Items:
             return lambda: itertools.product(arguments.SMALL_WHOLES, repeat=2)
         return lambda: itertools.product(*map(arguments.numbers, item.types))
 
-    def of_integers(self, item, module):
-        width = MACHINE[kind_of(item)] if self.takes_width(module, item.name, len(item.types)) else None
-        return self.ours(module, item.name, *([width] if width else []))
+    def of_integers(self, item, family):
+        return self.ours(family, item.name, MACHINE[kind_of(item)], given=len(item.types))
 
     def of_wrapping(self, item):
         module = "Signed" if kind_of(item)[0] == "i" else "Unsigned"
@@ -135,14 +150,10 @@ class Items:
     def of_bits(self, item):
         kind = kind_of(item)
         width, operation = MACHINE[kind], item.name.split(kind + "_")[-1]
-        every = lambda: ((number,) for number in (range(1 << width) if width <= 16 else arguments.every_power(kind)))
+        every = lambda: ((number,) for number in (range(1 << width) if width == 8 else arguments.every_power(kind)))
         if item.kind == "proof":
-            module, record = self.definitions.restated("Zeros"), operation.title().replace("_", "") + "Facts"
-            if record not in module.records:
-                raise Fault("%s does not restate %s" % (module.file, item.name))
-            self.compared.add((module.file, record))
             edges = lambda *_: ((number,) for number in arguments.every_power(kind))
-            facts = self.definitions.facts(module, record)
+            facts = self.definitions.facts(*self.restating("Zeros", operation.title().replace("_", "") + "Facts"))
             return [Facts(self.library, item, "%s_%s" % (kind, operation), facts, width, edges), Statement(self.library, item, edges)]
         ours = self.ours("Zeros", "vstd-" + operation, width)
         if item.kind == "spec":
@@ -173,12 +184,19 @@ class Items:
 
     def of_utf8(self, item):
         if item.kind == "proof":
-            return Statement(self.library, item, arguments.tried)
+            return [Statement(self.library, item, arguments.tried), *self.requirement(item)]
         if item.kind != "spec":
             return None
         natural = item.types[1:] == ("int",)
         given = lambda: (each for each in arguments.tried(item.types) if not natural or each[1] >= 0)
         return Definition(self.library, item, self.ours("Text", item.name), given)
+
+    def requirement(self, item):
+        """What a lemma requires, where it is restated under a name of its own: held against it where the lemma's other requirements are met."""
+        if item.name not in REQUIREMENTS or not any(REQUIREMENTS[item.name] in module.functions for module in self.definitions.restated(RESTATED["Text"])):
+            return []
+        ours = self.definitions.function(*self.restating("Text", REQUIREMENTS[item.name]))
+        return [Requirement(self.library, item, ours, lambda: arguments.tried(item.types))]
 
     def of_char(self, item):
         every = lambda: ((char,) for char in arguments.scalars())

@@ -6,6 +6,8 @@ COMPARISONS = ("==", "!=", "<", "<=", ">", ">=", "=~=")
 # loosest first, as Rust binds them
 LEVELS = [("|",), ("^",), ("&",), ("<<", ">>"), ("+", "-"), ("*", "/", "%")]
 ESCAPED = {"0": 0, "n": 10, "r": 13, "t": 9, "\\": 92, "'": 39}
+# words that begin forms which no clause of the six files has
+OTHER_FORMS = ("exists", "choose", "match", "matches", "let", "assert", "assume", "return", "while", "loop", "for", "move", "unsafe")
 GENERIC = {"Seq": "Seq", "Vec": "Seq", "Option": "Option"}
 
 
@@ -199,7 +201,7 @@ class Expressions:
             self.place += 2
             self.expect("[")
             return "seq", line, self.until("]")
-        if token.kind == "name":
+        if token.kind == "name" and token.text not in OTHER_FORMS:
             return self.path(line)
         raise NotUnderstood(self.file, line, token.text or "the end of the text")
 

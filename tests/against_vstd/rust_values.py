@@ -312,6 +312,11 @@ class Library:
         clause = Clause(self, item)
         return self.made([name for name, _ in item.parameters], " and ".join(["True", *map(clause.truth, getattr(item, which))]))
 
+    def each(self, item, which):
+        """The clauses of one kind, each as a function of the item's arguments."""
+        clause = Clause(self, item)
+        return [self.made([name for name, _ in item.parameters], clause.truth(each)) for each in getattr(item, which)]
+
     def keeps(self, item):
         """What a promise says of a result: a function of its arguments and the result. None where the item itself promises nothing."""
         clause, codes = Clause(self, item), []
