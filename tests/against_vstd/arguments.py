@@ -6,16 +6,20 @@ from verus import GREATEST_CHAR, MACHINE, SURROGATES, greatest, least
 
 BYTES = ("Seq", "u8")
 CHARS = ("Seq", "char")
-EDGE_BYTES = (0x00, 0x41, 0x7F, 0x80, 0x8F, 0x90, 0x9F, 0xA0, 0xBF, 0xC0, 0xC1, 0xC2, 0xDF, 0xE0, 0xED, 0xEF, 0xF0, 0xF4, 0xF5, 0xF7, 0xF8, 0xFF)
+EDGE_BYTES = (0x00, 0x7F, 0x80, 0x8F, 0x90, 0x9F, 0xA0, 0xBF, 0xC0, 0xC1, 0xC2, 0xDF, 0xE0, 0xED, 0xEF, 0xF0, 0xF4, 0xF5, 0xF7, 0xF8, 0xFF)
 FEW_BYTES = (0x7F, 0x80, 0x8F, 0x90, 0x9F, 0xA0, 0xBF, 0xC2, 0xE0, 0xED, 0xEF, 0xF0, 0xF4, 0xF5, 0xF7)
+FOLLOWING_EDGES = (0x00, 0x7F, 0x80, 0xBF, 0xC0, 0xFF)
 FEWEST_BYTES = (0x00, 0x7F, 0x80, 0xFF)
-SCALAR_EDGES = (0, 1, 9, 0x20, 0x41, 0x7F, 0x80, 0x85, 0xA0, 0x7FF, 0x800, 0x1680, 0x2028, 0x3000, 0xD7FF, 0xE000, 0xFEFF, 0xFFFD, 0xFFFF, 0x10000, 0x1F600, 0x3FFFF, 0x40000, 0xFFFFF, 0x100000, 0x10FFFF)
+SCALAR_EDGES = (
+    0, 1, 9, 0x20, 0x41, 0x7F, 0x80, 0x85, 0xA0, 0x7FF, 0x800, 0x1680, 0x2028, 0x3000, 0xD7FF, 0xE000, 0xFEFF, 0xFFFD, 0xFFFF, 0x10000, 0x1F600, 0x3FFFF,
+    0x40000, 0xFFFFF, 0x100000, 0x10FFFF,
+)
 # beyond the scalar values: what `u32` has besides
 OTHER_CODES = (0xD800, 0xDBFF, 0xDC00, 0xDFFF, 0x110000, 0x13FFFF, 0x1FFFFF, 0x200000, 0x7FFFFFFF, 0x80000000, 0xFFFFFFFF)
-# docs/DIFFERENCES.md and the tables of UTF-8: at the ends of each form, longer than needed, surrogates, too large, out of place, cut off
+# worked by hand: at the ends of each form, longer than needed, surrogates, too large, out of place, cut off
 WORKED = (
-    "7f", "c280", "dfbf", "e0a080", "ed9fbf", "ee8080", "efbfbf", "f0908080", "f48fbfbf", "c080", "c1bf", "e09fbf", "f08fbfbf", "eda080", "edbfbf", "f4908080", "f5808080", "80", "ff", "c2",
-    "e282", "f09f98", "ffe282ac", "61c3a9e282acf09f9880", "f09f9880e282acc3a961",
+    "7f", "c280", "dfbf", "e0a080", "ed9fbf", "ee8080", "efbfbf", "f0908080", "f48fbfbf", "c080", "c1bf", "e09fbf", "f08fbfbf", "eda080", "edbfbf", "f4908080",
+    "f5808080", "80", "ff", "c2", "e282", "f09f98", "ffe282ac", "61c3a9e282acf09f9880", "f09f9880e282acc3a961",
 )
 
 
@@ -76,10 +80,11 @@ def texts():
 
 @functools.lru_cache(maxsize=None)
 def byte_strings():
-    """All of up to two bytes, of three and four over the bytes at the edges of the classes, and the forms of scalar values at edges with one byte changed or left out."""
+    """All of up to two bytes, of three and four over those at the edges of the classes, and the forms of scalar values with one byte changed or left out."""
     found = [string for length in range(3) for string in strings_of(range(256), length)]
     found += strings_of(EDGE_BYTES, 3)
     found += strings_of(FEW_BYTES, 4)
+    found += itertools.product(EDGE_BYTES, EDGE_BYTES, *[FOLLOWING_EDGES] * 2)
     for scalar in SCALAR_EDGES:
         form = tuple(chr(scalar).encode())
         found += [form, form[:-1], form + form, form + (0x80,), (0xFF,) + form]

@@ -1,4 +1,5 @@
-"""A test that cannot fail is none: one clause of each of vstd's files is changed in memory, and one definition of each restated file, and each change must be found."""
+"""A test that cannot fail is none: one clause or more of each of vstd's files is changed in memory, and one definition of each restated family, and each change
+must be found; and what is put in that the test does not know must be refused."""
 from typing import NamedTuple
 
 from antt_values import Definitions
@@ -37,18 +38,18 @@ DEFINITIONS = (
 )
 # What is not understood is refused, by a fault that says `item`.
 REFUSED = (
-    Change("a form that is not known", "std_specs--bits", "forall|j: u8|", "exists|j: u8|", "not understood"),
+    Change("a form that is not known", "std_specs--bits", "forall|j: u8|", "exists|j: u8|", "not understood: exists"),
     Change("a function that is not known", "std_specs--num", "rust_div(", "rust_quotient(", "not understood: the function rust_quotient"),
     Change("a type that does not fit", "wrapping", "x << (shift % $bits)", "(x + 0) << (shift % $bits)", "not understood: a shift of int"),
     Change("an attribute that is not known", "std_specs--char", "#[verifier::allow_in_spec]", "#[only_on(tuesdays)]", "not understood: the attribute"),
-    Change("an item that nobody takes up", "std_specs--char", "} // verus!", "pub proof fn lemma_of_chars(c: char) ensures c == c { } }", "neither taken up nor left out"),
+    Change("an item that nobody takes up", "std_specs--char", "} // verus!", "pub proof fn added(c: char) ensures c == c { } }", "neither taken up nor left out"),
     Change("an item that is restated nowhere", "utf8", "/* ASCII */", "pub open spec fn is_nothing(b: u8) -> bool { false }", "does not restate is-nothing"),
 )
 
 
 def replaced(change, text):
     if change.old not in text:
-        raise Fault("%s: what should be changed (%s) does not stand there: give tests/against_vstd/changed.py another place" % (change.where, change.what))
+        raise Fault("%s: what tests/against_vstd/changed.py changes (%s) does not stand there: give it another place" % (change.where, change.what))
     return text.replace(change.old, change.new, 1)
 
 

@@ -1,4 +1,5 @@
-"""The ways in which vstd's items are held against ours. Each check goes through its arguments, yields what differs, and may leave questions for `ask` with the right answers."""
+"""The ways in which vstd's items are held against ours. Each check goes through its arguments, yields what differs, and may leave questions for `ask` with the
+right answers."""
 from typing import Any, NamedTuple
 
 from faults import Fault, LeftOpen
@@ -14,7 +15,8 @@ class Difference(NamedTuple):
     ours: Any
 
     def __str__(self):
-        return "%s (line %d) at %s\n        vstd %s\n        here %s" % (self.item.key, self.item.line, ", ".join(map(printed, self.given)), printed(self.theirs), printed(self.ours))
+        where = "%s (line %d) at %s" % (self.item.key, self.item.line, ", ".join(map(printed, self.given)))
+        return "%s\n        vstd %s\n        here %s" % (where, printed(self.theirs), printed(self.ours))
 
 
 def printed(value):
@@ -49,21 +51,26 @@ def value_or_open(function, *given):
         return "leaves it open: %s" % why
 
 
+# An answer as vstd has it: where its result is an Option, `refused` is None and another is Some; where it requires something, the value of an answer stands for it.
+def as_option(ours):
+    return ("None",) if ours == REFUSED else ("Some", *ours[1:])
+
+
+def value_of(ours):
+    return ours[1] if len(ours) == 2 and isinstance(ours[0], str) else ours
+
+
+def itself(ours):
+    return ours
+
+
 class Check:
     """`clauses` of vstd's item are tried at each of `arguments()`."""
 
     def __init__(self, item, clauses, arguments):
         self.item, self.clauses, self.arguments, self.tried, self.compared = item, clauses, arguments, 0, 0
-        self.is_ordering = item.result is not None and item.result[1] == "Ordering"
-        self.to_option = item.result is not None and isinstance(item.result[1], tuple) and item.result[1][0] == "Option"
-
-    def said(self, ours):
-        """An answer as vstd has it: `refused` is None and another is Some where its result is an Option, else the answer's value stands for it."""
-        if not isinstance(ours, tuple) or not ours or not isinstance(ours[0], str) or self.is_ordering:
-            return ours
-        if self.to_option:
-            return ("None",) if ours == REFUSED else ("Some", *ours[1:])
-        return ours[1] if len(ours) == 2 else ours
+        of_option = item.result is not None and isinstance(item.result[1], tuple) and item.result[1][0] == "Option"
+        self.said = as_option if of_option else value_of if item.requires else itself
 
     def differences(self, questions=None):
         raise NotImplementedError
@@ -82,7 +89,7 @@ class Definition(Check):
             try:
                 theirs = self.theirs(*given)
             except LeftOpen as why:
-                if self.recommended(*given):
+                if value_or_open(self.recommended, *given) is True:
                     yield Difference(self.item, given, "leaves it open: %s" % why, self.ours(*given))
                 continue
             self.compared += 1
@@ -91,7 +98,7 @@ class Definition(Check):
 
 
 class Promise(Check):
-    """The restated answer keeps every clause of the promise, and is refused where vstd requires something else. `asked` is the name of the question, if there is one."""
+    """The restated answer keeps every clause of the promise, and is refused where vstd requires something else. `asked` is the question's name, if any."""
 
     def __init__(self, library, item, ours, arguments, asked=None, keeps=None):
         super().__init__(item, max(1, len(item.ensures) + (item.returns is not None)), arguments)
@@ -101,19 +108,23 @@ class Promise(Check):
     def kept(self, given, ours):
         if self.required and not self.required(*given):
             return ours == REFUSED
-        return value_or_open(self.keeps, *given, self.said(ours)) is True
+        try:
+            return self.keeps(*given, self.said(ours))
+        except LeftOpen:
+            return False
 
     def differences(self, questions=None):
         of_bytes = any(isinstance(kind, tuple) for kind in self.item.types)
         form = (self.asked or "") + (" %s" if of_bytes else " %d") * len(self.item.types)
+        restated, kept, ask = self.ours, self.kept, questions.add if self.asked and questions is not None else None
         for given in self.arguments():
             self.tried += 1
             self.compared += 1
-            ours = self.ours(*given)
-            if not self.kept(given, ours):
+            ours = restated(*given)
+            if not kept(given, ours):
                 yield Difference(self.item, given, "promises another answer", ours)
-            if self.asked and questions is not None:
-                questions.add(form % (tuple(map(spelled, given)) if of_bytes else given), answer(ours))
+            if ask:
+                ask(form % (tuple(map(spelled, given)) if of_bytes else given), answer(ours))
 
 
 class Statement(Check):
@@ -157,7 +168,8 @@ class Requirement(Check):
 
 
 class Facts(Check):
-    """Each clause of a lemma about an answer says the same of any answer as the fact of the restated record in the same place."""
+    """Each clause of a lemma about an answer says the same of any answer as the fact of the restated record in the same place; of more than the width, where it
+    says anything."""
 
     def __init__(self, library, item, function, ours, width, arguments):
         self.theirs, self.ours, self.width = library.facts(item, function), ours, width
@@ -169,16 +181,13 @@ class Facts(Check):
             return
         for (number,) in self.arguments():
             self.tried += 1
-            for said in range(self.width + 1):
-                self.compared += len(self.theirs)
+            for said in range(self.width + 3):
                 for theirs, ours in zip(self.theirs, self.ours):
                     fact, restated = value_or_open(theirs, number, said), ours(self.width, number, said)
-                    if fact != restated:
-                        yield Difference(self.item, (number, said), fact, restated)
-            beyond = self.width + 1
-            fact, restated = all(value_or_open(theirs, number, beyond) for theirs in self.theirs), all(ours(self.width, number, beyond) for ours in self.ours)
-            if fact != restated:
-                yield Difference(self.item, (number, beyond), fact, restated)
+                    if said <= self.width or fact in (True, False):
+                        self.compared += 1
+                        if fact != restated:
+                            yield Difference(self.item, (number, said), fact, restated)
 
 
 class Export(Check):

@@ -5,9 +5,9 @@
     python3 tests/against_vstd/compare.py PROGRAM       with another program than the repository's ./ask
     python3 tests/against_vstd/compare.py --record      and write verdict.txt anew
 
-vstd's text is read from the folder that the variable VSTD names (or ../shared/docs/src beside the repository). Where it is not at hand, verdict.txt stands in: the restated
-files must be those that it is about. Exit status 1 where anything differs, an item of vstd's is neither taken up nor left out for a reason, a form is not understood, a change
-made in memory is not found out, or verdict.txt is not in step."""
+vstd's text is read from the folder that the variable VSTD names (or ../shared/docs/src beside the repository). Where it is not at hand, verdict.txt stands in:
+the restated files must be those that it is about. Exit status 1 where anything differs, an item of vstd's is neither taken up nor left out for a reason, a form
+is not understood, a change made in memory is not found out, or verdict.txt is not in step."""
 import argparse
 import collections
 import os

@@ -1,4 +1,5 @@
-"""Which of vstd's items are taken up, and how: each is held against a restated definition, or stands in LEFT_OUT with the reason. An item in neither place is a fault."""
+"""Which of vstd's items are taken up, and how: each is held against a restated definition, or stands in LEFT_OUT with the reason. An item in neither place is
+a fault."""
 import functools
 import itertools
 import re
@@ -82,7 +83,7 @@ class Items:
         dashed = name.replace("_", "-")
         module, found = self.restating(family, SAME_PROMISE.get((family, dashed), dashed), dashed[0].upper() + dashed[1:])
         function = self.definitions.function(module, found)
-        return functools.partial(function, *first) if given is None and first or given is not None and self.definitions.parameters(module, found) > given else function
+        return functools.partial(function, *first) if first and (given is None or self.definitions.parameters(module, found) > given) else function
 
     def checks(self):
         found = []
@@ -106,12 +107,12 @@ class Items:
             return lambda: itertools.product(arguments.SMALL_WHOLES, repeat=2)
         return lambda: itertools.product(*map(arguments.numbers, item.types))
 
-    def of_integers(self, item, family):
-        return self.ours(family, item.name, MACHINE[kind_of(item)], given=len(item.types))
+    def of_integers(self, item):
+        kind = kind_of(item)
+        return self.ours("Signed" if kind[0] == "i" else "Unsigned", item.name, MACHINE[kind], given=len(item.types))
 
     def of_wrapping(self, item):
-        module = "Signed" if kind_of(item)[0] == "i" else "Unsigned"
-        return Definition(self.library, item, self.of_integers(item, module), self.integers(item))
+        return Definition(self.library, item, self.of_integers(item), self.integers(item))
 
     def of_num(self, item):
         if item.key == "std_specs--num next_multiple_of":
@@ -127,8 +128,7 @@ class Items:
         if item.kind == "spec":
             return self.of_wrapping(item)
         if item.kind == "promise" and item.owner in MACHINE:
-            module = "Signed" if item.owner[0] == "i" else "Unsigned"
-            return Promise(self.library, item, self.of_integers(item, module), self.integers(item), "%s.%s" % (item.owner, item.name))
+            return Promise(self.library, item, self.of_integers(item), self.integers(item), "%s.%s" % (item.owner, item.name))
         return None
 
     def compare(self, name):
@@ -138,12 +138,11 @@ class Items:
         return lambda x, y: ("Some", cmp(x, y))
 
     def read_off(self, item):
-        eq, cmp, partial = (self.library.value(self.library.keyed["%s %s::%s" % (item.file, item.owner, name)]) for name in ("eq_spec", "cmp_spec", "partial_cmp_spec"))
-        rule = READ_OFF[item.name]
-        asked = item.owner + ".compare" if item.name == "cmp" else None
-        return Promise(
-            self.library, item, self.compare(item.name), self.integers(item), asked, lambda x, y, result: result == rule(eq(x, y), cmp(x, y), partial(x, y)),
-        )
+        of_type = ("%s %s::%s" % (item.file, item.owner, name) for name in ("eq_spec", "cmp_spec", "partial_cmp_spec"))
+        eq, cmp, partial = (self.library.value(self.library.keyed[key]) for key in of_type)
+        rule, asked = READ_OFF[item.name], item.owner + ".compare" if item.name == "cmp" else None
+        keeps = lambda x, y, result: result == rule(eq(x, y), cmp(x, y), partial(x, y))
+        return Promise(self.library, item, self.compare(item.name), self.integers(item), asked, keeps)
 
     # ---- zeros and ones
 
@@ -172,8 +171,7 @@ class Items:
             return Statement(self.library, item, lambda kinds: by_type[kinds]())
         if item.kind == "spec":
             ours = self.ours("Bytes", "spec-from-le-bytes", width, count - 1) if reads else self.ours("Bytes", "spec-to-le-bytes", count)
-            exactly = lambda: ((given,) for given in arguments.short_lists() if len(given) == count)
-            return Definition(self.library, item, ours, exactly if reads else numbers)
+            return Definition(self.library, item, ours, lists if reads else numbers)
         if item.kind == "exec":
             asked = "%s.%s_le_bytes" % (kind, "from" if reads else "to")
             ours = self.ours("Bytes", "from-le-bytes", width, count - 1) if reads else self.ours("Bytes", "spec-to-le-bytes", count)

@@ -1,5 +1,5 @@
-"""What Verus itself brings: its machine types, `as`, elements and parts of sequences, and its divisions. `/` and `%` are the Euclidean pair, rust_div and rust_rem round
-towards zero. What its logic leaves open is left open here, too."""
+"""What Verus itself brings: its machine types, `as`, elements and parts of sequences, and its divisions. `/` and `%` are the Euclidean pair, rust_div and
+rust_rem round towards zero. What its logic leaves open is left open here, too."""
 from faults import LeftOpen
 
 WIDTHS = {"8": 8, "16": 16, "32": 32, "64": 64, "128": 128, "size": 64}
