@@ -40,7 +40,7 @@ def edges(kind):
 def every_power(kind):
     """Beside each power of two, their complements, and some patterns of bits."""
     powers = [1 << place for place in range(MACHINE[kind] + 1)]
-    patterns = [greatest(kind) // 255 * byte for byte in (0x01, 0x50, 0x55, 0x80, 0xAA, 0xF7)]
+    patterns = [greatest(kind) // 255 * byte for byte in (0x01, 0x50, 0x55, 0x80, 0xAA, 0xF7)] + [0x0102030405060708 & greatest(kind)]
     found = near([*powers, *patterns], kind)
     return sorted({*found, *(greatest(kind) - value for value in found)})
 
