@@ -69,24 +69,5 @@ def whole_crates():
         yield os.path.join(CRATES, name, "src", "lib.rt"), lib
 
 
-def face():
-    """The face's modules for both families: promises_zeros, with a function for each end and kind of digit, and promises_bytes."""
-    counts = [{"END": end, "KIND": kind} for end in ("leading", "trailing") for kind in ("zeros", "ones")]
-    for name, widths, each in (("zeros", WIDTHS[:4], counts), ("bytes", WIDTHS[1:4], [{}])):
-        folder, module = os.path.join(TEMPLATES, "promisebook"), "promises_" + name
-        code = read(os.path.join(folder, name, "begin.rt.in"))
-        for suffix, type_suffix, bits in widths:
-            table = {**words(suffix, type_suffix, bits), **byte_words(type_suffix, bits, {})}
-            parts = templates(os.path.join(folder, name), bits)
-            code += filled(parts["width"], table)
-            for further in each:
-                code += filled(parts.get("count", ""), {**table, **further})
-                for function, proof in templates(os.path.join(folder, "proofs", name), bits).items():
-                    named = {**table, **further}
-                    yield os.path.join(CRATES, "promisebook", "proofs", module, filled(function, named), "Proof.antt"), filled(proof, named)
-        yield os.path.join(CRATES, "promisebook", "src", module + ".rt"), code
-
-
 def files():
     yield from whole_crates()
-    yield from face()

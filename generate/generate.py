@@ -12,15 +12,15 @@ import os
 import sys
 
 import bench
-import beyond
 import bindings
 import decimals
 import digits
+import faces
 import integers
 import programs
 from templates import CRATES, read
 
-FAMILIES = [integers, digits, decimals, beyond, programs, bench]
+FAMILIES = [integers, digits, decimals, faces, programs, bench]
 
 
 def stored(made):

@@ -207,10 +207,6 @@ static void of_u16(void)
     { pb_answer_i8 r = pb_u16_partial_cmp(3u, 5u); check("pb_u16_partial_cmp", r.ok && r.value == -1); }
     { pb_answer_i8 r = pb_u16_partial_cmp(5u, 5u); check("pb_u16_partial_cmp", r.ok && r.value == 0); }
     { pb_answer_i8 r = pb_u16_partial_cmp(65535u, 0u); check("pb_u16_partial_cmp", r.ok && r.value == 1); }
-    { const uint8_t s[] = {2, 1}; pb_answer_u16 r = pb_u16_from_le_bytes(s, 2); check("pb_u16_from_le_bytes", r.ok && r.value == 258u); }
-    { const uint8_t s[] = {1}; pb_answer_u16 r = pb_u16_from_le_bytes(s, 1); check("pb_u16_from_le_bytes", !r.ok && r.value == 0u); }
-    { uint8_t s[] = {0, 0, 0}; bool r = pb_u16_to_le_bytes(258u, s, 3, 1u); const uint8_t s_after[] = {0, 2, 1}; check("pb_u16_to_le_bytes", r == true && memcmp(s, s_after, 3) == 0); }
-    { uint8_t s[] = {0, 0, 0}; bool r = pb_u16_to_le_bytes(258u, s, 3, 2u); const uint8_t s_after[] = {0, 0, 0}; check("pb_u16_to_le_bytes", r == false && memcmp(s, s_after, 3) == 0); }
     { uint32_t r = pb_u16_leading_zeros(80u); check("pb_u16_leading_zeros", r == 9u); }
     { uint32_t r = pb_u16_leading_zeros(247u); check("pb_u16_leading_zeros", r == 8u); }
     { uint32_t r = pb_u16_leading_zeros(0u); check("pb_u16_leading_zeros", r == 16u); }
@@ -227,6 +223,10 @@ static void of_u16(void)
     { uint32_t r = pb_u16_trailing_ones(247u); check("pb_u16_trailing_ones", r == 3u); }
     { uint32_t r = pb_u16_trailing_ones(0u); check("pb_u16_trailing_ones", r == 0u); }
     { uint32_t r = pb_u16_trailing_ones(65535u); check("pb_u16_trailing_ones", r == 16u); }
+    { const uint8_t s[] = {2, 1}; pb_answer_u16 r = pb_u16_from_le_bytes(s, 2); check("pb_u16_from_le_bytes", r.ok && r.value == 258u); }
+    { const uint8_t s[] = {1}; pb_answer_u16 r = pb_u16_from_le_bytes(s, 1); check("pb_u16_from_le_bytes", !r.ok && r.value == 0u); }
+    { uint8_t s[] = {0, 0, 0}; bool r = pb_u16_to_le_bytes(258u, s, 3, 1u); const uint8_t s_after[] = {0, 2, 1}; check("pb_u16_to_le_bytes", r == true && memcmp(s, s_after, 3) == 0); }
+    { uint8_t s[] = {0, 0, 0}; bool r = pb_u16_to_le_bytes(258u, s, 3, 2u); const uint8_t s_after[] = {0, 0, 0}; check("pb_u16_to_le_bytes", r == false && memcmp(s, s_after, 3) == 0); }
     { const uint8_t s[] = {1, 2}; pb_answer_u16 r = pb_u16_from_be_bytes(s, 2); check("pb_u16_from_be_bytes", r.ok && r.value == 258u); }
     { const uint8_t s[] = {2}; pb_answer_u16 r = pb_u16_from_be_bytes(s, 1); check("pb_u16_from_be_bytes", !r.ok && r.value == 0u); }
     { uint8_t s[] = {0, 0, 0}; bool r = pb_u16_to_be_bytes(258u, s, 3, 1u); const uint8_t s_after[] = {0, 1, 2}; check("pb_u16_to_be_bytes", r == true && memcmp(s, s_after, 3) == 0); }
@@ -330,10 +330,6 @@ static void of_u32(void)
     { pb_answer_i8 r = pb_u32_partial_cmp(3u, 5u); check("pb_u32_partial_cmp", r.ok && r.value == -1); }
     { pb_answer_i8 r = pb_u32_partial_cmp(5u, 5u); check("pb_u32_partial_cmp", r.ok && r.value == 0); }
     { pb_answer_i8 r = pb_u32_partial_cmp(4294967295u, 0u); check("pb_u32_partial_cmp", r.ok && r.value == 1); }
-    { const uint8_t s[] = {4, 3, 2, 1}; pb_answer_u32 r = pb_u32_from_le_bytes(s, 4); check("pb_u32_from_le_bytes", r.ok && r.value == 16909060u); }
-    { const uint8_t s[] = {3, 2, 1}; pb_answer_u32 r = pb_u32_from_le_bytes(s, 3); check("pb_u32_from_le_bytes", !r.ok && r.value == 0u); }
-    { uint8_t s[] = {0, 0, 0, 0, 0}; bool r = pb_u32_to_le_bytes(16909060u, s, 5, 1u); const uint8_t s_after[] = {0, 4, 3, 2, 1}; check("pb_u32_to_le_bytes", r == true && memcmp(s, s_after, 5) == 0); }
-    { uint8_t s[] = {0, 0, 0, 0, 0}; bool r = pb_u32_to_le_bytes(16909060u, s, 5, 2u); const uint8_t s_after[] = {0, 0, 0, 0, 0}; check("pb_u32_to_le_bytes", r == false && memcmp(s, s_after, 5) == 0); }
     { uint32_t r = pb_u32_leading_zeros(80u); check("pb_u32_leading_zeros", r == 25u); }
     { uint32_t r = pb_u32_leading_zeros(247u); check("pb_u32_leading_zeros", r == 24u); }
     { uint32_t r = pb_u32_leading_zeros(0u); check("pb_u32_leading_zeros", r == 32u); }
@@ -350,6 +346,10 @@ static void of_u32(void)
     { uint32_t r = pb_u32_trailing_ones(247u); check("pb_u32_trailing_ones", r == 3u); }
     { uint32_t r = pb_u32_trailing_ones(0u); check("pb_u32_trailing_ones", r == 0u); }
     { uint32_t r = pb_u32_trailing_ones(4294967295u); check("pb_u32_trailing_ones", r == 32u); }
+    { const uint8_t s[] = {4, 3, 2, 1}; pb_answer_u32 r = pb_u32_from_le_bytes(s, 4); check("pb_u32_from_le_bytes", r.ok && r.value == 16909060u); }
+    { const uint8_t s[] = {3, 2, 1}; pb_answer_u32 r = pb_u32_from_le_bytes(s, 3); check("pb_u32_from_le_bytes", !r.ok && r.value == 0u); }
+    { uint8_t s[] = {0, 0, 0, 0, 0}; bool r = pb_u32_to_le_bytes(16909060u, s, 5, 1u); const uint8_t s_after[] = {0, 4, 3, 2, 1}; check("pb_u32_to_le_bytes", r == true && memcmp(s, s_after, 5) == 0); }
+    { uint8_t s[] = {0, 0, 0, 0, 0}; bool r = pb_u32_to_le_bytes(16909060u, s, 5, 2u); const uint8_t s_after[] = {0, 0, 0, 0, 0}; check("pb_u32_to_le_bytes", r == false && memcmp(s, s_after, 5) == 0); }
     { const uint8_t s[] = {1, 2, 3, 4}; pb_answer_u32 r = pb_u32_from_be_bytes(s, 4); check("pb_u32_from_be_bytes", r.ok && r.value == 16909060u); }
     { const uint8_t s[] = {2, 3, 4}; pb_answer_u32 r = pb_u32_from_be_bytes(s, 3); check("pb_u32_from_be_bytes", !r.ok && r.value == 0u); }
     { uint8_t s[] = {0, 0, 0, 0, 0}; bool r = pb_u32_to_be_bytes(16909060u, s, 5, 1u); const uint8_t s_after[] = {0, 1, 2, 3, 4}; check("pb_u32_to_be_bytes", r == true && memcmp(s, s_after, 5) == 0); }
@@ -453,10 +453,6 @@ static void of_u64(void)
     { pb_answer_i8 r = pb_u64_partial_cmp(3u, 5u); check("pb_u64_partial_cmp", r.ok && r.value == -1); }
     { pb_answer_i8 r = pb_u64_partial_cmp(5u, 5u); check("pb_u64_partial_cmp", r.ok && r.value == 0); }
     { pb_answer_i8 r = pb_u64_partial_cmp(18446744073709551615u, 0u); check("pb_u64_partial_cmp", r.ok && r.value == 1); }
-    { const uint8_t s[] = {8, 7, 6, 5, 4, 3, 2, 1}; pb_answer_u64 r = pb_u64_from_le_bytes(s, 8); check("pb_u64_from_le_bytes", r.ok && r.value == 72623859790382856u); }
-    { const uint8_t s[] = {7, 6, 5, 4, 3, 2, 1}; pb_answer_u64 r = pb_u64_from_le_bytes(s, 7); check("pb_u64_from_le_bytes", !r.ok && r.value == 0u); }
-    { uint8_t s[] = {0, 0, 0, 0, 0, 0, 0, 0, 0}; bool r = pb_u64_to_le_bytes(72623859790382856u, s, 9, 1u); const uint8_t s_after[] = {0, 8, 7, 6, 5, 4, 3, 2, 1}; check("pb_u64_to_le_bytes", r == true && memcmp(s, s_after, 9) == 0); }
-    { uint8_t s[] = {0, 0, 0, 0, 0, 0, 0, 0, 0}; bool r = pb_u64_to_le_bytes(72623859790382856u, s, 9, 2u); const uint8_t s_after[] = {0, 0, 0, 0, 0, 0, 0, 0, 0}; check("pb_u64_to_le_bytes", r == false && memcmp(s, s_after, 9) == 0); }
     { uint32_t r = pb_u64_leading_zeros(80u); check("pb_u64_leading_zeros", r == 57u); }
     { uint32_t r = pb_u64_leading_zeros(247u); check("pb_u64_leading_zeros", r == 56u); }
     { uint32_t r = pb_u64_leading_zeros(0u); check("pb_u64_leading_zeros", r == 64u); }
@@ -473,6 +469,10 @@ static void of_u64(void)
     { uint32_t r = pb_u64_trailing_ones(247u); check("pb_u64_trailing_ones", r == 3u); }
     { uint32_t r = pb_u64_trailing_ones(0u); check("pb_u64_trailing_ones", r == 0u); }
     { uint32_t r = pb_u64_trailing_ones(18446744073709551615u); check("pb_u64_trailing_ones", r == 64u); }
+    { const uint8_t s[] = {8, 7, 6, 5, 4, 3, 2, 1}; pb_answer_u64 r = pb_u64_from_le_bytes(s, 8); check("pb_u64_from_le_bytes", r.ok && r.value == 72623859790382856u); }
+    { const uint8_t s[] = {7, 6, 5, 4, 3, 2, 1}; pb_answer_u64 r = pb_u64_from_le_bytes(s, 7); check("pb_u64_from_le_bytes", !r.ok && r.value == 0u); }
+    { uint8_t s[] = {0, 0, 0, 0, 0, 0, 0, 0, 0}; bool r = pb_u64_to_le_bytes(72623859790382856u, s, 9, 1u); const uint8_t s_after[] = {0, 8, 7, 6, 5, 4, 3, 2, 1}; check("pb_u64_to_le_bytes", r == true && memcmp(s, s_after, 9) == 0); }
+    { uint8_t s[] = {0, 0, 0, 0, 0, 0, 0, 0, 0}; bool r = pb_u64_to_le_bytes(72623859790382856u, s, 9, 2u); const uint8_t s_after[] = {0, 0, 0, 0, 0, 0, 0, 0, 0}; check("pb_u64_to_le_bytes", r == false && memcmp(s, s_after, 9) == 0); }
     { const uint8_t s[] = {1, 2, 3, 4, 5, 6, 7, 8}; pb_answer_u64 r = pb_u64_from_be_bytes(s, 8); check("pb_u64_from_be_bytes", r.ok && r.value == 72623859790382856u); }
     { const uint8_t s[] = {2, 3, 4, 5, 6, 7, 8}; pb_answer_u64 r = pb_u64_from_be_bytes(s, 7); check("pb_u64_from_be_bytes", !r.ok && r.value == 0u); }
     { uint8_t s[] = {0, 0, 0, 0, 0, 0, 0, 0, 0}; bool r = pb_u64_to_be_bytes(72623859790382856u, s, 9, 1u); const uint8_t s_after[] = {0, 1, 2, 3, 4, 5, 6, 7, 8}; check("pb_u64_to_be_bytes", r == true && memcmp(s, s_after, 9) == 0); }

@@ -309,13 +309,6 @@ int8_t pb_u16_cmp(uint16_t x, uint16_t y);
 /* How `x` stands to `y`: less (-1), equal (0) or greater (1). Never refused. */
 pb_answer_i8 pb_u16_partial_cmp(uint16_t x, uint16_t y);
 
-/* The number whose 2 bytes are `s`, lowest first. Refused where `s` has another length. */
-pb_answer_u16 pb_u16_from_le_bytes(const uint8_t *s, size_t s_len);
-
-/* Writes the 2 bytes of `x` into `s` from the place `at` on, lowest first, and changes no other byte. Refused where
-   they do not fit there. */
-bool pb_u16_to_le_bytes(uint16_t x, uint8_t *s, size_t s_len, size_t at);
-
 /* How many bits of `i` are 0 from the highest on, up to the first 1; 16 where all are. */
 uint32_t pb_u16_leading_zeros(uint16_t i);
 
@@ -327,6 +320,13 @@ uint32_t pb_u16_trailing_zeros(uint16_t i);
 
 /* How many bits of `i` are 1 from the lowest on, up to the first 0; 16 where all are. */
 uint32_t pb_u16_trailing_ones(uint16_t i);
+
+/* The number whose 2 bytes are `s`, lowest first. Refused where `s` has another length. */
+pb_answer_u16 pb_u16_from_le_bytes(const uint8_t *s, size_t s_len);
+
+/* Writes the 2 bytes of `x` into `s` from the place `at` on, lowest first, and changes no other byte. Refused where
+   they do not fit there. */
+bool pb_u16_to_le_bytes(uint16_t x, uint8_t *s, size_t s_len, size_t at);
 
 /* The number whose 2 bytes are `s`, highest first. Refused where `s` has another length. */
 pb_answer_u16 pb_u16_from_be_bytes(const uint8_t *s, size_t s_len);
@@ -430,13 +430,6 @@ int8_t pb_u32_cmp(uint32_t x, uint32_t y);
 /* How `x` stands to `y`: less (-1), equal (0) or greater (1). Never refused. */
 pb_answer_i8 pb_u32_partial_cmp(uint32_t x, uint32_t y);
 
-/* The number whose 4 bytes are `s`, lowest first. Refused where `s` has another length. */
-pb_answer_u32 pb_u32_from_le_bytes(const uint8_t *s, size_t s_len);
-
-/* Writes the 4 bytes of `x` into `s` from the place `at` on, lowest first, and changes no other byte. Refused where
-   they do not fit there. */
-bool pb_u32_to_le_bytes(uint32_t x, uint8_t *s, size_t s_len, size_t at);
-
 /* How many bits of `i` are 0 from the highest on, up to the first 1; 32 where all are. */
 uint32_t pb_u32_leading_zeros(uint32_t i);
 
@@ -448,6 +441,13 @@ uint32_t pb_u32_trailing_zeros(uint32_t i);
 
 /* How many bits of `i` are 1 from the lowest on, up to the first 0; 32 where all are. */
 uint32_t pb_u32_trailing_ones(uint32_t i);
+
+/* The number whose 4 bytes are `s`, lowest first. Refused where `s` has another length. */
+pb_answer_u32 pb_u32_from_le_bytes(const uint8_t *s, size_t s_len);
+
+/* Writes the 4 bytes of `x` into `s` from the place `at` on, lowest first, and changes no other byte. Refused where
+   they do not fit there. */
+bool pb_u32_to_le_bytes(uint32_t x, uint8_t *s, size_t s_len, size_t at);
 
 /* The number whose 4 bytes are `s`, highest first. Refused where `s` has another length. */
 pb_answer_u32 pb_u32_from_be_bytes(const uint8_t *s, size_t s_len);
@@ -552,13 +552,6 @@ int8_t pb_u64_cmp(uint64_t x, uint64_t y);
 /* How `x` stands to `y`: less (-1), equal (0) or greater (1). Never refused. */
 pb_answer_i8 pb_u64_partial_cmp(uint64_t x, uint64_t y);
 
-/* The number whose 8 bytes are `s`, lowest first. Refused where `s` has another length. */
-pb_answer_u64 pb_u64_from_le_bytes(const uint8_t *s, size_t s_len);
-
-/* Writes the 8 bytes of `x` into `s` from the place `at` on, lowest first, and changes no other byte. Refused where
-   they do not fit there. */
-bool pb_u64_to_le_bytes(uint64_t x, uint8_t *s, size_t s_len, size_t at);
-
 /* How many bits of `i` are 0 from the highest on, up to the first 1; 64 where all are. */
 uint32_t pb_u64_leading_zeros(uint64_t i);
 
@@ -570,6 +563,13 @@ uint32_t pb_u64_trailing_zeros(uint64_t i);
 
 /* How many bits of `i` are 1 from the lowest on, up to the first 0; 64 where all are. */
 uint32_t pb_u64_trailing_ones(uint64_t i);
+
+/* The number whose 8 bytes are `s`, lowest first. Refused where `s` has another length. */
+pb_answer_u64 pb_u64_from_le_bytes(const uint8_t *s, size_t s_len);
+
+/* Writes the 8 bytes of `x` into `s` from the place `at` on, lowest first, and changes no other byte. Refused where
+   they do not fit there. */
+bool pb_u64_to_le_bytes(uint64_t x, uint8_t *s, size_t s_len, size_t at);
 
 /* The number whose 8 bytes are `s`, highest first. Refused where `s` has another length. */
 pb_answer_u64 pb_u64_from_be_bytes(const uint8_t *s, size_t s_len);

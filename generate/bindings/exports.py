@@ -6,7 +6,7 @@ from dataclasses import dataclass
 
 from templates import CRATES, read
 
-FACES = ["promisebook", "promisebook_beyond"]
+FACES = re.findall(r"^(promisebook_\w+):", read(os.path.join(os.path.dirname(CRATES), "crates.txt")), re.M)
 INTEGER = re.compile(r"([ui])(8|16|32|64|128|size)")
 SLICE = re.compile(r"&(mut )?\[(\w+)\]")
 EXPORT = re.compile(r"^#\[no_mangle\]\npub extern \"C\" fn pb_(\w+)\(([^)]*)\) -> ([\w:]+)\n", re.M)
@@ -83,19 +83,18 @@ def parameters(text, where):
 
 
 def exports(made):
-    """Every export, in groups: the integers by sign and width, then the families; within a group face by face, and first those of the group's own module."""
+    """Every export, in groups: the integers by sign and width, then the families; within a group face by face, as crates.txt lists them."""
     found = []
     for face in FACES:
         for path, text in sources(face, made).items():
             read_here = EXPORT.findall(text)
             if len(read_here) != text.count('extern "C" fn'):
                 raise SystemExit("%s: an exported function is not written as the others are" % path)
-            module = os.path.splitext(os.path.basename(path))[0]
             for name, written, answer in read_here:
                 group, _, operation = name.partition("_")
                 export = Export(group, operation, parameters(written, name), answered(answer, name, face, made))
-                found.append((group_order(group), FACES.index(face), module != "promises_" + group, module, len(found), export))
-    return [export for *_, export in sorted(found, key=lambda row: row[:5])]
+                found.append((group_order(group), FACES.index(face), len(found), export))
+    return [export for *_, export in sorted(found, key=lambda row: row[:3])]
 
 
 def group_order(group):

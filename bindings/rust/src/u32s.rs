@@ -399,38 +399,6 @@ pub fn partial_cmp(x: u32, y: u32) -> Option<Ordering> {
     answer.ok.then_some(ordering(answer.value))
 }
 
-/// The number whose 4 bytes are `s`, lowest first. Refused where `s` has another length.
-///
-/// ```
-/// use promisebook::u32s;
-/// assert_eq!(u32s::from_le_bytes(&[4, 3, 2, 1]), Some(16909060));
-/// assert_eq!(u32s::from_le_bytes(&[3, 2, 1]), None);
-/// ```
-#[inline]
-#[must_use]
-pub fn from_le_bytes(s: &[u8]) -> Option<u32> {
-    let answer = exported::u32_from_le_bytes(s);
-    answer.ok.then_some(answer.value)
-}
-
-/// Writes the 4 bytes of `x` into `s` from the place `at` on, lowest first, and changes no other byte. Refused
-/// where they do not fit there.
-///
-/// ```
-/// use promisebook::u32s;
-/// let mut s = [0, 0, 0, 0, 0];
-/// assert_eq!(u32s::to_le_bytes(16909060, &mut s, 1), Some(()));
-/// assert_eq!(s, [0, 4, 3, 2, 1]);
-/// let mut s = [0, 0, 0, 0, 0];
-/// assert_eq!(u32s::to_le_bytes(16909060, &mut s, 2), None);
-/// assert_eq!(s, [0, 0, 0, 0, 0]);
-/// ```
-#[inline]
-#[must_use]
-pub fn to_le_bytes(x: u32, s: &mut [u8], at: usize) -> Option<()> {
-    exported::u32_to_le_bytes(x, s, at).then_some(())
-}
-
 /// How many bits of `i` are 0 from the highest on, up to the first 1; 32 where all are.
 ///
 /// ```
@@ -489,6 +457,38 @@ pub fn trailing_zeros(i: u32) -> u32 {
 #[must_use]
 pub fn trailing_ones(i: u32) -> u32 {
     exported::pb_u32_trailing_ones(i)
+}
+
+/// The number whose 4 bytes are `s`, lowest first. Refused where `s` has another length.
+///
+/// ```
+/// use promisebook::u32s;
+/// assert_eq!(u32s::from_le_bytes(&[4, 3, 2, 1]), Some(16909060));
+/// assert_eq!(u32s::from_le_bytes(&[3, 2, 1]), None);
+/// ```
+#[inline]
+#[must_use]
+pub fn from_le_bytes(s: &[u8]) -> Option<u32> {
+    let answer = exported::u32_from_le_bytes(s);
+    answer.ok.then_some(answer.value)
+}
+
+/// Writes the 4 bytes of `x` into `s` from the place `at` on, lowest first, and changes no other byte. Refused
+/// where they do not fit there.
+///
+/// ```
+/// use promisebook::u32s;
+/// let mut s = [0, 0, 0, 0, 0];
+/// assert_eq!(u32s::to_le_bytes(16909060, &mut s, 1), Some(()));
+/// assert_eq!(s, [0, 4, 3, 2, 1]);
+/// let mut s = [0, 0, 0, 0, 0];
+/// assert_eq!(u32s::to_le_bytes(16909060, &mut s, 2), None);
+/// assert_eq!(s, [0, 0, 0, 0, 0]);
+/// ```
+#[inline]
+#[must_use]
+pub fn to_le_bytes(x: u32, s: &mut [u8], at: usize) -> Option<()> {
+    exported::u32_to_le_bytes(x, s, at).then_some(())
 }
 
 /// The number whose 4 bytes are `s`, highest first. Refused where `s` has another length.

@@ -400,38 +400,6 @@ pub fn partial_cmp(x: u64, y: u64) -> Option<Ordering> {
     answer.ok.then_some(ordering(answer.value))
 }
 
-/// The number whose 8 bytes are `s`, lowest first. Refused where `s` has another length.
-///
-/// ```
-/// use promisebook::u64s;
-/// assert_eq!(u64s::from_le_bytes(&[8, 7, 6, 5, 4, 3, 2, 1]), Some(72623859790382856));
-/// assert_eq!(u64s::from_le_bytes(&[7, 6, 5, 4, 3, 2, 1]), None);
-/// ```
-#[inline]
-#[must_use]
-pub fn from_le_bytes(s: &[u8]) -> Option<u64> {
-    let answer = exported::u64_from_le_bytes(s);
-    answer.ok.then_some(answer.value)
-}
-
-/// Writes the 8 bytes of `x` into `s` from the place `at` on, lowest first, and changes no other byte. Refused
-/// where they do not fit there.
-///
-/// ```
-/// use promisebook::u64s;
-/// let mut s = [0, 0, 0, 0, 0, 0, 0, 0, 0];
-/// assert_eq!(u64s::to_le_bytes(72623859790382856, &mut s, 1), Some(()));
-/// assert_eq!(s, [0, 8, 7, 6, 5, 4, 3, 2, 1]);
-/// let mut s = [0, 0, 0, 0, 0, 0, 0, 0, 0];
-/// assert_eq!(u64s::to_le_bytes(72623859790382856, &mut s, 2), None);
-/// assert_eq!(s, [0, 0, 0, 0, 0, 0, 0, 0, 0]);
-/// ```
-#[inline]
-#[must_use]
-pub fn to_le_bytes(x: u64, s: &mut [u8], at: usize) -> Option<()> {
-    exported::u64_to_le_bytes(x, s, at).then_some(())
-}
-
 /// How many bits of `i` are 0 from the highest on, up to the first 1; 64 where all are.
 ///
 /// ```
@@ -490,6 +458,38 @@ pub fn trailing_zeros(i: u64) -> u32 {
 #[must_use]
 pub fn trailing_ones(i: u64) -> u32 {
     exported::pb_u64_trailing_ones(i)
+}
+
+/// The number whose 8 bytes are `s`, lowest first. Refused where `s` has another length.
+///
+/// ```
+/// use promisebook::u64s;
+/// assert_eq!(u64s::from_le_bytes(&[8, 7, 6, 5, 4, 3, 2, 1]), Some(72623859790382856));
+/// assert_eq!(u64s::from_le_bytes(&[7, 6, 5, 4, 3, 2, 1]), None);
+/// ```
+#[inline]
+#[must_use]
+pub fn from_le_bytes(s: &[u8]) -> Option<u64> {
+    let answer = exported::u64_from_le_bytes(s);
+    answer.ok.then_some(answer.value)
+}
+
+/// Writes the 8 bytes of `x` into `s` from the place `at` on, lowest first, and changes no other byte. Refused
+/// where they do not fit there.
+///
+/// ```
+/// use promisebook::u64s;
+/// let mut s = [0, 0, 0, 0, 0, 0, 0, 0, 0];
+/// assert_eq!(u64s::to_le_bytes(72623859790382856, &mut s, 1), Some(()));
+/// assert_eq!(s, [0, 8, 7, 6, 5, 4, 3, 2, 1]);
+/// let mut s = [0, 0, 0, 0, 0, 0, 0, 0, 0];
+/// assert_eq!(u64s::to_le_bytes(72623859790382856, &mut s, 2), None);
+/// assert_eq!(s, [0, 0, 0, 0, 0, 0, 0, 0, 0]);
+/// ```
+#[inline]
+#[must_use]
+pub fn to_le_bytes(x: u64, s: &mut [u8], at: usize) -> Option<()> {
+    exported::u64_to_le_bytes(x, s, at).then_some(())
 }
 
 /// The number whose 8 bytes are `s`, highest first. Refused where `s` has another length.

@@ -1,6 +1,5 @@
 // The arguments as one question: joined by single spaces.
 use libc::STDOUT_FILENO;
-use promisebook::promises_slices;
 use questions::answers;
 
 // The bytes of the question so far; not ok where there are more than a line can hold.
@@ -24,7 +23,7 @@ pub fn answer() {
 }
 
 fn reply(ok: bool, line: &[u8]) {
-    let help = promises_slices::pb_bytes_equal(line, 0, line.len(), b"--help");
+    let help = promisebook_slices::pb_bytes_equal(line, 0, line.len(), b"--help");
     if help.value {
         crate::help::print();
     } else {

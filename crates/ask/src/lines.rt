@@ -1,7 +1,6 @@
 // Standard input, line by line, and the answers to standard output.
 use libc::STDIN_FILENO;
 use libc::STDOUT_FILENO;
-use promisebook::promises_slices;
 use questions::answers;
 use questions::places;
 
@@ -113,7 +112,7 @@ fn gathered(line: &mut [u8], block: &[u8], from: usize, to: usize, state: State)
         return next;
     }
     let end = held + n;
-    promises_slices::pb_bytes_copy_from(line, held, end, &block[from..to]);
+    promisebook_slices::pb_bytes_copy_from(line, held, end, &block[from..to]);
     next.held = end;
     next
 }

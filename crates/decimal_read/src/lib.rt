@@ -1,7 +1,7 @@
 // Numbers without a sign, read from a part of a slice that says them in decimal (theory_decimal): 64 bits, which every other kind goes by, and then each of those. No function asks anything of its caller.
 ghost use lib.IntN.{pos};
 ghost use Rattle.theory_whole.specs.Kind.{unsigned};
-ghost use Rattle.theory_whole.specs.Fit.{Answers};
+ghost use Rattle.theory_answers.specs.Answer.{Answers};
 ghost use Rattle.theory_decimal.specs.Read as said;
 
 // n with the figure c behind it.

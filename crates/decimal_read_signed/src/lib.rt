@@ -1,6 +1,6 @@
 // Numbers with a sign or none, read from a part of a slice that says them in decimal (theory_decimal): '-', and then a number as decimal_read reads it. No function asks anything of its caller.
 ghost use Rattle.theory_whole.specs.Kind.{signed};
-ghost use Rattle.theory_whole.specs.Fit.{Answers};
+ghost use Rattle.theory_answers.specs.Answer.{Answers};
 ghost use Rattle.theory_decimal.specs.Read as said;
 
 pub fn read_i8(s: &[u8], from: usize, to: usize) -> signed8::Checked

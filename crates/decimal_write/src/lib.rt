@@ -83,7 +83,7 @@ pub fn write_u64(out: &mut [u8], at: usize, x: u64) -> Length
 }
 
 fn write_with_sign(out: &mut [u8], at: usize, negative: bool, magnitude: u64) -> Length
-    ensures { λ r. ⌜ text.Shows (r .ok) (r .value) (now (out .entry)) at (text.signed negative magnitude) (now (out .exit)) ⌝ }
+    ensures { λ r. ⌜ text.Shows (r .ok) (r .value) (now (out .entry)) at (text.withSign negative magnitude) (now (out .exit)) ⌝ }
 {
     if !negative {
         return write_u64(out, at, magnitude);

@@ -4,9 +4,10 @@ ghost use mathlib.Core.Path.{_≡_};
 ghost use Prim.Native.Nat.{_+_, _*_};
 ghost use lib.IntN.{pos};
 ghost use lib.ListN.{length};
-ghost use Rattle.theory_whole.specs.Fit.{Answers};
+ghost use Rattle.theory_answers.specs.Answer.{Answers};
+ghost use Rattle.theory_lists.specs.Written.{Writes};
 ghost use Rattle.theory_digits.specs.Digits.{digits, value, digitsHigh, valueHigh};
-ghost use Rattle.theory_digits.specs.Answers.{number, numberHigh, Writes};
+ghost use Rattle.theory_digits.specs.Number.{number, numberHigh};
 
 // The answer of a function that may refuse: a refusal has the value 0.
 #[repr(C)]

@@ -1,6 +1,6 @@
 // The operations of i16 by their numbers, as the face exports them.
 use crate::Answer;
-use promisebook::promises_i16 as face;
+use promisebook_i16 as face;
 use signed16 as own;
 use unsigned16 as other;
 

@@ -1,6 +1,6 @@
 // The operations of i32 by their numbers, as the face exports them.
 use crate::Answer;
-use promisebook::promises_i32 as face;
+use promisebook_i32 as face;
 use signed32 as own;
 use unsigned32 as other;
 

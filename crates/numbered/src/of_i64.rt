@@ -1,6 +1,6 @@
 // The operations of i64 by their numbers, as the face exports them.
 use crate::Answer;
-use promisebook::promises_i64 as face;
+use promisebook_i64 as face;
 use signed64 as own;
 use unsigned64 as other;
 

@@ -1,6 +1,6 @@
 // The operations of i8 by their numbers, as the face exports them.
 use crate::Answer;
-use promisebook::promises_i8 as face;
+use promisebook_i8 as face;
 use signed8 as own;
 use unsigned8 as other;
 

@@ -1,6 +1,6 @@
 // The operations of isize by their numbers, as the face exports them.
 use crate::Answer;
-use promisebook::promises_isize as face;
+use promisebook_isize as face;
 use signed_size as own;
 use unsigned_size as other;
 

@@ -1,6 +1,6 @@
 // The operations of u16 by their numbers, as the face exports them.
 use crate::Answer;
-use promisebook::promises_u16 as face;
+use promisebook_u16 as face;
 use signed16 as other;
 use unsigned16 as own;
 

@@ -1,6 +1,6 @@
 // The operations of u32 by their numbers, as the face exports them.
 use crate::Answer;
-use promisebook::promises_u32 as face;
+use promisebook_u32 as face;
 use signed32 as other;
 use unsigned32 as own;
 

@@ -1,6 +1,6 @@
 // The operations of u64 by their numbers, as the face exports them.
 use crate::Answer;
-use promisebook::promises_u64 as face;
+use promisebook_u64 as face;
 use signed64 as other;
 use unsigned64 as own;
 

@@ -1,6 +1,6 @@
 // The operations of u8 by their numbers, as the face exports them.
 use crate::Answer;
-use promisebook::promises_u8 as face;
+use promisebook_u8 as face;
 use signed8 as other;
 use unsigned8 as own;
 

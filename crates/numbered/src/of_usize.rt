@@ -1,6 +1,6 @@
 // The operations of usize by their numbers, as the face exports them.
 use crate::Answer;
-use promisebook::promises_usize as face;
+use promisebook_usize as face;
 use signed_size as other;
 use unsigned_size as own;
 

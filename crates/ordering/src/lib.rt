@@ -4,6 +4,13 @@ ghost use mathlib.Core.Bool.{not};
 ghost use Rattle.theory_whole.specs.Order.{isLess, isEqual, isGreater, numbered};
 use theory_whole::Ordering;
 
+// Some ordering, by its number, or none: what comparing two integers answers is always some.
+#[repr(C)]
+pub struct PartialOrdering {
+    pub ok: bool,
+    pub value: i8,
+}
+
 pub fn is_eq(o: Ordering) -> bool
     ensures { λ r. ⌜ r ≡ isEqual o ⌝ }
 {

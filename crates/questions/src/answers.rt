@@ -1,6 +1,5 @@
 // Answers: what is said, and how it is written into `out` from a place on. Each writer answers the place behind what it wrote. Where there is no room it writes
 // nothing: whoever calls it keeps room for an answer.
-use promisebook::promises_slices;
 
 // What a question is answered. A number has its kind and its bits; of bytes it is said how many, and they stand at the start of the room that was lent for them.
 pub enum Said {
@@ -59,7 +58,7 @@ pub fn words(out: &mut [u8], at: usize, said: &[u8]) -> usize {
         return at;
     }
     let end = at + n;
-    promises_slices::pb_bytes_copy_from(out, at, end, said);
+    promisebook_slices::pb_bytes_copy_from(out, at, end, said);
     end
 }
 

@@ -6,7 +6,7 @@ use crate::numbers;
 use crate::words::Word;
 use crate::words::Words;
 use numbered::Answer;
-use promisebook::promises_slices as face;
+use promisebook_slices as face;
 
 // ---- the operations, by what they take besides: nothing, a place or a length, two places, bytes, a byte
 

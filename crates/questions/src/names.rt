@@ -1,7 +1,6 @@
 // Every NAME there is: which family it names, and which operation of it. A family's operations are numbered by their place in its list of names.
 use crate::places;
 use crate::words::Word;
-use promisebook::promises_slices;
 
 // ---- families
 
@@ -103,6 +102,6 @@ fn number_in(list: &[u8], name: &[u8]) -> u8 {
 }
 
 fn is_word(list: &[u8], from: usize, to: usize, name: &[u8]) -> bool {
-    let same = promises_slices::pb_bytes_equal(list, from, to, name);
+    let same = promisebook_slices::pb_bytes_equal(list, from, to, name);
     same.value
 }

@@ -2,7 +2,7 @@
 use numbered::Answer;
 
 pub fn read(s: &[u8], from: usize, to: usize) -> Answer {
-    let number = promisebook_beyond::pb_i8_read_decimal(s, from, to);
+    let number = promisebook_decimal::pb_i8_read_decimal(s, from, to);
     Answer {
         ok: number.ok,
         bits: unsigned8::wrapped(number.value) as u64,

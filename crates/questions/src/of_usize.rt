@@ -2,7 +2,7 @@
 use numbered::Answer;
 
 pub fn read(s: &[u8], from: usize, to: usize) -> Answer {
-    let number = promisebook_beyond::pb_usize_read_decimal(s, from, to);
+    let number = promisebook_decimal::pb_usize_read_decimal(s, from, to);
     Answer {
         ok: number.ok,
         bits: number.value as u64,

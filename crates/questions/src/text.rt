@@ -5,7 +5,7 @@ use crate::hex;
 use crate::numbers;
 use crate::words::Words;
 use numbered::Answer;
-use promisebook::promises_text as face;
+use promisebook_text as face;
 
 // ---- the operations, by what they take: bytes, a scalar value, bytes and a place, a part of bytes, bytes with a place and a scalar value
 

@@ -5,7 +5,8 @@ ghost use lib.IntN.{pos, _*ℤ_};
 ghost use lib.Signed.{quotZ, remZ};
 ghost use Rattle.theory_whole.specs.Kind.{signed};
 ghost use Rattle.theory_whole.specs.Division.{ediv, emod};
-ghost use Rattle.theory_whole.specs.Fit.{wrap, divided, Answers};
+ghost use Rattle.theory_answers.specs.Answer.{Answers};
+ghost use Rattle.theory_whole.specs.Fit.{wrap, divided};
 use signed32::Checked;
 use signed32::divides;
 

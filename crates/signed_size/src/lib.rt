@@ -4,8 +4,9 @@ ghost use mathlib.Core.Bool.{not, _&&_};
 ghost use lib.IntN.{ℤ, pos, _+ℤ_, _-ℤ_, _*ℤ_};
 ghost use lib.Signed.{quotZ};
 ghost use Rattle.theory_whole.specs.Kind.{signed};
-ghost use Rattle.theory_whole.specs.Division.{isZero};
-ghost use Rattle.theory_whole.specs.Fit.{fits, wrap, refuse, Answers};
+ghost use Rattle.theory_whole.specs.Order.{eqZ};
+ghost use Rattle.theory_answers.specs.Answer.{Answers};
+ghost use Rattle.theory_whole.specs.Fit.{fits, wrap, refuse};
 
 // The answer of an operation that may refuse: a refusal has the value 0.
 #[repr(C)]
@@ -157,7 +158,7 @@ pub fn checked_mul(a: isize, b: isize) -> Checked
 
 // Whether a / b has a value: the smallest number by -1 has none.
 pub fn divides(a: isize, b: isize) -> bool
-    ensures { λ r. ⌜ r ≡ not (isZero b) && fits (signed 64) (quotZ a b) ⌝ }
+    ensures { λ r. ⌜ r ≡ not (eqZ b (pos 0)) && fits (signed 64) (quotZ a b) ⌝ }
 {
     if b == 0 {
         false

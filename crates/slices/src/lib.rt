@@ -4,7 +4,7 @@ ghost use mathlib.Core.Path.{_≡_};
 ghost use mathlib.Core.Bool.{false};
 ghost use Prim.Native.Nat.{_+_, _-_, _<_};
 ghost use lib.ListN.{length, getD};
-ghost use Rattle.theory_lists.specs.Says.{Says, Outcome};
+ghost use Rattle.theory_answers.specs.Says.{Says, Outcome};
 ghost use Rattle.theory_lists.specs.Part.{part, Within};
 
 #[repr(C)]

@@ -2,7 +2,7 @@
 ghost use mathlib.Core.Path.{_≡_};
 ghost use Prim.Native.Nat.{_+_, _-_, _≤_, _<_};
 ghost use lib.ListN.{length};
-ghost use Rattle.theory_lists.specs.Says.{Outcome};
+ghost use Rattle.theory_answers.specs.Says.{Outcome};
 ghost use Rattle.theory_lists.specs.Part.{Within};
 ghost use Rattle.theory_lists.specs.Written.{written};
 

@@ -2,8 +2,8 @@
 // end), and asks nothing of its caller. a, e and m are counted from `from`, the answers from the start of s.
 ghost use mathlib.Core.Path.{_≡_};
 ghost use Prim.Native.Nat.{_+_, _-_, _≤_, _<_, min};
-ghost use Rattle.theory_lists.specs.Says.{Outcome};
-ghost use Rattle.theory_lists.specs.Part.{Within, PartOrNone};
+ghost use Rattle.theory_answers.specs.Says.{Outcome};
+ghost use Rattle.theory_lists.specs.Part.{Within, partOrNone};
 
 #[repr(C)]
 pub struct Range {
@@ -104,7 +104,7 @@ pub fn next_piece(s: &[u8], from: usize, to: usize, n: usize) -> Range
 
 // The part itself, and no bytes on refusal.
 pub fn sub_slice(s: &[u8], from: usize, to: usize) -> &[u8]
-    ensures { λ r. ⌜ PartOrNone from to (now (s .entry)) (now r) ⌝ }
+    ensures { λ r. ⌜ now r ≡ partOrNone from to (now (s .entry)) ⌝ }
 {
     if to < from {
         return &s[..0];

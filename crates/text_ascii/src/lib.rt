@@ -3,8 +3,9 @@ ghost use mathlib.Core.Path.{_≡_};
 ghost use mathlib.Core.Bool.{true};
 ghost use Prim.Native.Nat.{_+_, _≤_, _<_};
 ghost use lib.ListN.{length};
-ghost use Rattle.theory_lists.specs.Says.{Says};
-ghost use Rattle.theory_text.specs.Ascii.{AsciiIn, Ascii, AsciiRun};
+ghost use Rattle.theory_answers.specs.Says.{Says};
+ghost use Rattle.theory_lists.specs.Part.{part};
+ghost use Rattle.theory_text.specs.Ascii.{Ascii, AsciiRun};
 
 // Every byte is looked at, so that many are looked at at once.
 fn all(s: &[u8]) -> bool
@@ -54,7 +55,7 @@ pub fn is_ascii(s: &[u8]) -> bool
 
 // True only where `size` bytes from a place on are there and ASCII.
 pub fn ascii_block(s: &[u8], from: usize, size: usize) -> bool
-    ensures { λ r. ⌜ (r ≡ true → (from + size ≤ length (now (s .entry))) × AsciiIn (now (s .entry)) from (from + size)) ⌝ }
+    ensures { λ r. ⌜ (r ≡ true → (from + size ≤ length (now (s .entry))) × Ascii (part from (from + size) (now (s .entry)))) ⌝ }
 {
     if s.len() < size {
         return false;

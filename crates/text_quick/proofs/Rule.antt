@@ -4,19 +4,21 @@ use mathlib.Core.Bool.{cond, Bool, true, _&&_}
 use mathlib.Core.List.{List, [], _∷_, _++_}
 use Prim.Native.Nat.{ℕ, _+_, _-_, _*_, _/_, _%_, _^_, _<_, _≤_}
 use native.Mathlib.Omega.{arith}
-use native.Mathlib.Nat.{zero-add}
+use native.Mathlib.Nat.{zero-add, add-sub-cancel-left}
 use lib.Dec.{eqb, ltb}
 use lib.ListN.{length, getD, take, drop, length-take}
 use lib.Seq.{take-add, drop-drop, drop-cons, getD-take, getD-drop}
 use borrow.Author.Tests.{eqb-true, ltb-true}
 use Rattle.theory_whole.proofs.Cases.{by-test, both-are}
-use Rattle.theory_text.specs.Table.{has, After, more, wrong, after}
+use Rattle.theory_lists.specs.Bounds.{between}
+use Rattle.theory_lists.specs.Part.{part}
+use Rattle.theory_text.specs.Table.{After, more, wrong, after}
 use Rattle.theory_text.specs.Reading.{ReadFrom}
 use Rattle.theory_text.proofs.Pieces.{read-from}
-use Rattle.theory_text.specs.Automaton.{step, run}
-use Rattle.theory_text.specs.Ascii.{AsciiIn, Ascii}
+use Rattle.theory_text.specs.Automaton.{step, steps}
+use Rattle.theory_text.specs.Ascii.{Ascii}
 use Rattle.theory_text.proofs.Ascii.{ascii-valid}
-use Rattle.theory_text.proofs.Automaton.{run-append, valid-run, run-valid}
+use Rattle.theory_text.proofs.Automaton.{steps-append, valid-steps, steps-valid}
 use Rattle.text_quick.specs.Shift.{states, state, Good, Moves, table}
 use Rattle.text_quick.proofs.Same.{same, are-same, every, each}
 
@@ -31,7 +33,7 @@ row-right : ℕ → Bool
 row-right b = every (right b) 0 9
 
 all-right : every row-right 0 256 ≡ true
-unfolding right row-right table after has
+unfolding right row-right table after between
 all-right = refl
 
 module _ (b q : ℕ) (hb : b < 256) (hq : q < 9) where
@@ -69,21 +71,21 @@ module _ (s : List ℕ) (i : ℕ) where
   moves-join n m x y z f g =
       record {
         good = g .good;
-        moved = g .moved ∙ ap (λ (a : After). run a (take m (drop (i + n) s))) (f .moved)
-            ∙ sym (run-append (state x) (take n (drop i s)) (take m (drop (i + n) s)))
-            ∙ ap (run (state x)) (ap (λ (l : List ℕ). take n (drop i s) ++ take m l) (sym (drop-drop n i s)) ∙ sym (take-add n m (drop i s)));
+        moved = g .moved ∙ ap (λ (a : After). steps a (take m (drop (i + n) s))) (f .moved)
+            ∙ sym (steps-append (state x) (take n (drop i s)) (take m (drop (i + n) s)))
+            ∙ ap (steps (state x)) (ap (λ (l : List ℕ). take n (drop i s) ++ take m l) (sym (drop-drop n i s)) ∙ sym (take-add n m (drop i s)));
       }
 
   pub moves-one : (x y : ℕ) → i < length s → Good y → state y ≡ step (state x) (getD s i 0) → Moves s i 1 x y
-  moves-one x y h g e = record { good = g; moved = e ∙ ap (run (state x)) (sym (one-byte h)) }
+  moves-one x y h g e = record { good = g; moved = e ∙ ap (steps (state x)) (sym (one-byte h)) }
 
   -- ASCII between two scalars
-  pub moves-ascii : (n x : ℕ) → x % 64 ≡ 0 → AsciiIn s i (i + n) → i + n ≤ length s → Moves s i n x 0
+  pub moves-ascii : (n x : ℕ) → x % 64 ≡ 0 → Ascii (part i (i + n) s) → i + n ≤ length s → Moves s i n x 0
   unfolding state
   moves-ascii n x z a h =
       let f : state x ≡ more [] = ap (λ (k : ℕ). getD states (k / 6) wrong) z in
-      let v : Ascii (take n (drop i s)) = λ j l. rw (getD-take n (drop i s) j 0 (omega (arith, length-take n (drop i s))), getD-drop i s j 0) (a (i + j) (omega arith) (omega (arith, length-take n (drop i s)))) in
-      record { good = good-zero; moved = sym (ap (λ (q : After). run q (take n (drop i s))) f ∙ valid-run (take n (drop i s)) (ascii-valid (take n (drop i s)) v)) }
+      let v : Ascii (take n (drop i s)) = subst (λ (k : ℕ). Ascii (take k (drop i s))) (add-sub-cancel-left i n) a in
+      record { good = good-zero; moved = sym (ap (λ (q : After). steps q (take n (drop i s))) f ∙ valid-steps (take n (drop i s)) (ascii-valid (take n (drop i s)) v)) }
 
 pub zero-idle : (x : ℕ) → x % 64 ≡ 0 → state x ≡ more []
 unfolding state
@@ -91,7 +93,7 @@ zero-idle x z = ap (λ (k : ℕ). getD states (k / 6) wrong) z
 
 -- ---- a place between two scalars
 pub moves-read : (s : List ℕ) (i x : ℕ) → i ≤ length s → Moves s 0 i 0 x → x % 64 ≡ 0 → ReadFrom s i
-moves-read s i x h m z = read-from s i (run-valid (take i s) (sym (rw (zero-idle 0 refl) at (m .moved)) ∙ zero-idle x z)) h
+moves-read s i x h m z = read-from s i (steps-valid (take i s) (sym (rw (zero-idle 0 refl) at (m .moved)) ∙ zero-idle x z)) h
 
 pub later-read : (s : List ℕ) (i x place r : ℕ) → i ≤ length s → Moves s 0 i 0 x → ReadFrom s place → r ≡ cond (eqb (x % 64) 0) i place → ReadFrom s r
 later-read s i x place r h m p e = rw e (by-test (eqb (x % 64) 0) (λ t. rw t (moves-read s i x h m (eqb-true (x % 64) 0 t))) (λ t. rw t p))

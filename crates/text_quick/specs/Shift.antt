@@ -4,7 +4,7 @@ use mathlib.Core.Path.{_≡_}
 use mathlib.Core.List.{List, [], _∷_, _++_}
 use lib.ListN.{getD, take, drop, replicate}
 use Rattle.theory_text.specs.Table.{Range, _to_, After, more, wrong}
-use Rattle.theory_text.specs.Automaton.{run}
+use Rattle.theory_text.specs.Automaton.{steps}
 
 abbrev any : Range
 any = 0x80 to 0xbf
@@ -33,7 +33,7 @@ pub record Good (x : ℕ) : Type 0 where
 -- n bytes of s from place i on lead from the number x to the number y
 pub record Moves (s : List ℕ) (i n x y : ℕ) : Type 0 where
   pub good : Good y
-  pub moved : state y ≡ run (state x) (take n (drop i s))
+  pub moved : state y ≡ steps (state x) (take n (drop i s))
 
 unfoldable pub table : List ℕ
 table =

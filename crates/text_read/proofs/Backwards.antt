@@ -8,7 +8,7 @@ use lib.Dec.{ltb}
 use lib.ListN.{length, getD}
 use borrow.Author.Tests.{eq-eqb, ne-eqb, ltb-true, ltb-false}
 use Rattle.theory_whole.proofs.Cases.{by-test}
-use Rattle.theory_text.specs.ByValue.{follows}
+use Rattle.theory_text.specs.Scalar.{follows}
 use Rattle.theory_text.specs.Boundary.{Back}
 
 pub record Going (s : List ℕ) (k : ℕ) : Type 0 where

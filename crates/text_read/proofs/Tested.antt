@@ -7,8 +7,9 @@ use native.Mathlib.Omega.{arith}
 use lib.Dec.{ltb}
 use borrow.Author.Tests.{ltb-true, ltb-false}
 use Rattle.theory_whole.proofs.Cases.{by-test}
-use Rattle.theory_text.specs.Table.{_to_, After, has, followed, first}
-use Rattle.theory_text.proofs.Tests.{has-in, has-below, has-above}
+use Rattle.theory_lists.specs.Bounds.{between}
+use Rattle.theory_lists.proofs.Between.{is-between, not-below, not-above}
+use Rattle.theory_text.specs.Table.{After, followed, first}
 use Rattle.theory_text.proofs.Rows.{Row, row-is}
 use Rattle.text_read.specs.Asked.{asked, Leads}
 
@@ -16,12 +17,12 @@ pub leads : {b n l h : ℕ} → n ≤ 4 → Row b (asked n l h) → Leads b n l 
 leads m r = record { most = m; asks = row-is r }
 
 -- 10xxxxxx
-pub follows-in : (b : ℕ) → b / 64 ≡ 2 → has (0x80 to 0xbf) b ≡ true
-follows-in b e = has-in 0x80 0xbf b (omega arith) (omega arith)
+pub follows-in : (b : ℕ) → b / 64 ≡ 2 → between 0x80 0xbf b ≡ true
+follows-in b e = is-between 0x80 0xbf b (omega arith) (omega arith)
 
-pub follows-out : (b : ℕ) → (b / 64 ≡ 2 → ⊥) → has (0x80 to 0xbf) b ≡ false
+pub follows-out : (b : ℕ) → (b / 64 ≡ 2 → ⊥) → between 0x80 0xbf b ≡ false
 follows-out b n =
-    by-test (ltb b 0x80) (λ e. has-below 0x80 0xbf b (ltb-true b 0x80 e)) (λ e. let l = ltb-false b 0x80 e in has-above 0x80 0xbf b (omega arith))
+    by-test (ltb b 0x80) (λ e. not-below 0x80 0xbf b (ltb-true b 0x80 e)) (λ e. let l = ltb-false b 0x80 e in not-above 0x80 0xbf b (omega arith))
 
 module _ (l h b1 b2 b3 : ℕ) where
   abbrev long : ℕ → ℕ
@@ -33,14 +34,14 @@ module _ (l h b1 b2 b3 : ℕ) where
   few (suc (suc n)) p = absurd (omega arith)
 
   -- where the second byte is out of its range, there is no form
-  pub second-out : (n : ℕ) → 2 ≤ n → has (l to h) b1 ≡ false → 0 ≡ long n
+  pub second-out : (n : ℕ) → 2 ≤ n → between l h b1 ≡ false → 0 ≡ long n
   second-out zero p e = absurd (omega arith)
   second-out (suc zero) p e = absurd (omega arith)
   second-out (suc (suc zero)) p e = rw e
   second-out (suc (suc (suc zero))) p e = rw e
   second-out (suc (suc (suc (suc n)))) p e = rw e
 
-  module _ (in1 : has (l to h) b1 ≡ true) where
+  module _ (in1 : between l h b1 ≡ true) where
     pub two : (n : ℕ) → n ≡ 2 → 2 ≡ long n
     two n e = rw (e, in1)
 

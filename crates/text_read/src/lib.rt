@@ -3,11 +3,10 @@ ghost use mathlib.Core.Path.{_≡_};
 ghost use Prim.Native.Nat.{_+_, _≤_, _<_};
 ghost use lib.ListN.{length, getD, drop};
 ghost use Rattle.theory_lists.specs.Part.{part, Within};
-ghost use Rattle.theory_text.specs.Text.{Begins, Ends};
+ghost use Rattle.theory_text.specs.Text.{Begins, Ends, ReadIs};
 ghost use Rattle.theory_text.specs.Table.{first};
-ghost use Rattle.theory_text.specs.Reading.{valueOf, value};
+ghost use Rattle.theory_text.specs.Reading.{valueOf, decoded};
 ghost use Rattle.theory_text.specs.Boundary.{Back};
-ghost use Rattle.theory_text.specs.Answer.{ReadIs};
 ghost use mathlib.Core.List.{[], _∷_};
 ghost use Rattle.text_read.specs.Asked.{Leads};
 
@@ -183,7 +182,7 @@ pub fn first_at(s: &[u8], at: usize) -> usize
 // The value of the n bytes at a place.
 fn value_at(s: &[u8], at: usize, n: usize) -> u32
     requires { ⌜ at < length (now s) ⌝ }
-    ensures { λ r. ⌜ r ≡ value n (drop at (now (s .entry))) ⌝ }
+    ensures { λ r. ⌜ r ≡ decoded n (drop at (now (s .entry))) ⌝ }
 {
     value_of(
         n,

@@ -1,8 +1,9 @@
 // One scalar value: whether a number is one, how long its form is, white space. What is no scalar value is refused.
 ghost use mathlib.Core.Path.{_≡_};
-ghost use Rattle.theory_lists.specs.Says.{Says, Outcome};
+ghost use Rattle.theory_answers.specs.Says.{Says, Outcome};
+ghost use Rattle.theory_lists.specs.Part.{Has};
 ghost use Rattle.theory_text.specs.Scalar.{Scalar, len};
-ghost use Rattle.theory_text.specs.WhiteSpace.{whiteSpace, listed};
+ghost use Rattle.theory_text.specs.WhiteSpace.{whiteSpace};
 
 // A number of bytes, or refused: then it is 0.
 #[repr(C)]
@@ -59,7 +60,7 @@ pub fn scalar_len(c: u32) -> Length
 
 // Unicode's White_Space.
 pub fn is_white_space(c: u32) -> bool
-    ensures { λ r. ⌜ r ≡ listed whiteSpace c ⌝ }
+    ensures { λ r. ⌜ Says r (Has c whiteSpace) ⌝ }
 {
     if c < 0x9 {
         return false;

@@ -3,10 +3,10 @@ ghost use mathlib.Core.Path.{_≡_};
 ghost use mathlib.Core.Bool.{true, false, cond};
 ghost use Prim.Native.Nat.{_+_, _≤_, _<_};
 ghost use lib.ListN.{length, drop};
-ghost use Rattle.theory_lists.specs.Says.{Says, Outcome};
+ghost use Rattle.theory_answers.specs.Says.{Says, Outcome};
 ghost use Rattle.theory_text.specs.Text.{Valid};
 ghost use Rattle.theory_text.specs.Reading.{scalars, validTo, ReadFrom};
-ghost use Rattle.theory_text.specs.ByValue.{follows};
+ghost use Rattle.theory_text.specs.Scalar.{follows};
 ghost use Rattle.theory_text.specs.Boundary.{Boundary, Splits, started};
 ghost use Rattle.text_valid.specs.Onward.{Onward};
 

@@ -3,7 +3,7 @@ ghost use mathlib.Core.Path.{_≡_};
 ghost use mathlib.Core.List.{[], _∷_};
 ghost use Prim.Native.Nat.{_+_, _≤_, _<_};
 ghost use lib.ListN.{length};
-ghost use Rattle.theory_lists.specs.Says.{Outcome};
+ghost use Rattle.theory_answers.specs.Says.{Outcome};
 ghost use Rattle.theory_lists.specs.Written.{written};
 ghost use Rattle.theory_text.specs.Scalar.{Scalar, len, digit, form};
 use text_scalar::Length;

@@ -1,15 +1,15 @@
 -- Figures and digits: each the other's text, piece by piece.
-use mathlib.Core.Path.{_≡_, refl, sym, ap, ap₂, _∙_}
+use mathlib.Core.Path.{_≡_, refl, ap, ap₂, _∙_}
 use mathlib.Core.Bool.{Bool, true, false, _&&_}
 use mathlib.Core.List.{List, [], _∷_, _++_, map, map-append}
-use Prim.Native.Nat.{ℕ, zero, suc, _+_, _-_, _*_, _^_, _≤_, _<_}
+use Prim.Native.Nat.{ℕ, _+_, _-_, _*_, _^_, _<_}
 use native.Mathlib.Omega.{arith}
-use borrow.Author.Tests.{le-leb, leb-true}
-use lib.Dec.{leb}
 use lib.ListN.{length, length-map}
 use Rattle.theory_whole.proofs.Cases.{both, both-are}
-use Rattle.theory_digits.specs.Digits.{digitsHigh, valueHigh, AllBelow}
+use Rattle.theory_lists.specs.Bounds.{AllBelow}
+use Rattle.theory_digits.specs.Digits.{digitsHigh, valueHigh}
 use Rattle.theory_digits.proofs.High.{length-digitsHigh, digitsHigh-below, valueHigh-of-digitsHigh, valueHigh-append, valueHigh-push-lowest}
+use Rattle.theory_lists.proofs.Between.{is-between, bounds-of}
 use Rattle.theory_decimal.specs.Written.{figure, figures}
 use Rattle.theory_decimal.specs.Read.{isFigure, allFigures, digitsOf, meant}
 
@@ -24,11 +24,11 @@ digits-of-figures (d ∷ ds) =
     let e : 0x30 + d - 0x30 ≡ d = omega arith in ap₂ (λ (x : ℕ) (xs : List ℕ). x ∷ xs) e (digits-of-figures ds)
 
 pub digits-are-figures : (ds : List ℕ) → AllBelow 10 ds → allFigures (map figure ds) ≡ true
-unfolding allFigures isFigure AllBelow
+unfolding allFigures AllBelow
 digits-are-figures [] h = refl
 digits-are-figures (d ∷ ds) h =
     let l = h .0 in
-    both (both (le-leb 0x30 (figure d) (omega arith)) (le-leb (figure d) 0x39 (omega arith))) (digits-are-figures ds (h .1))
+    both (is-between 0x30 0x39 (figure d) (omega arith) (omega arith)) (digits-are-figures ds (h .1))
 
 pub figures-are : (count n : ℕ) → allFigures (figures count n) ≡ true
 figures-are count n = let p : 0 < 10 = omega arith in digits-are-figures (digitsHigh 10 count n) (digitsHigh-below 10 count n p)
@@ -41,16 +41,12 @@ figures-mean count n h =
 
 -- ---- from figures to digits
 
-pub figure-is : (c : ℕ) → isFigure c ≡ true → (0x30 ≤ c) × (c ≤ 0x39)
-unfolding isFigure
-figure-is c e = let b = both-are (leb 0x30 c) (leb c 0x39) e in (leb-true 0x30 c (b .0), leb-true c 0x39 (b .1))
-
 pub digits-below-ten : (text : List ℕ) → allFigures text ≡ true → AllBelow 10 (digitsOf text)
 unfolding allFigures AllBelow
 digits-below-ten [] e = tt
 digits-below-ten (c ∷ text) e =
     let b = both-are (isFigure c) (allFigures text) e in
-    let f = figure-is c (b .0) in
+    let f = bounds-of 0x30 0x39 c (b .0) in
     (omega (arith, f .0, f .1), digits-below-ten text (b .1))
 
 pub figures-of-digits : (text : List ℕ) → allFigures text ≡ true → map figure (digitsOf text) ≡ text
@@ -58,7 +54,7 @@ unfolding allFigures
 figures-of-digits [] e = refl
 figures-of-digits (c ∷ text) e =
     let b = both-are (isFigure c) (allFigures text) e in
-    let f = figure-is c (b .0) in
+    let f = bounds-of 0x30 0x39 c (b .0) in
     let back : 0x30 + (c - 0x30) ≡ c = omega (arith, f .0) in
     ap₂ (λ (x : ℕ) (xs : List ℕ). x ∷ xs) back (figures-of-digits text (b .1))
 

@@ -1,6 +1,6 @@
 -- What is written is read back as the same number, has no superfluous zero, and is the only such text.
-use mathlib.Core.Path.{_≡_, refl, sym, ap, subst, _∙_}
-use mathlib.Core.Bool.{true, false}
+use mathlib.Core.Path.{_≡_, refl, sym, ap, _∙_}
+use mathlib.Core.Bool.{true}
 use mathlib.Core.List.{List, [], _∷_, map}
 use Prim.Native.Nat.{ℕ, zero, suc, _+_, _-_, _*_, _^_, _≤_, _<_}
 use native.Mathlib.Decide.{decLt}
@@ -9,30 +9,29 @@ use native.Mathlib.Omega.{arith}
 use borrow.Author.Tests.{ne-eqb}
 use lib.ListN.{length, getD, length-map}
 use lib.IntN.{ℤ, pos, negsuc, negℤ}
-use lib.Dec.{eqb}
-use Rattle.theory_whole.specs.Fit.{Answer, refused, value, only-if}
+use Rattle.theory_answers.specs.Answer.{Answer, refused, answered}
 use Rattle.theory_whole.proofs.Cases.{both-are}
-use Rattle.theory_whole.proofs.Refuse.{only-if-so}
-use Rattle.theory_digits.specs.Digits.{digitsHigh, valueHigh}
+use Rattle.theory_answers.proofs.Answer.{only-if-so}
 use Rattle.theory_digits.proofs.High.{valueHigh-below, valueHigh-push-highest, digitsHigh-of-valueHigh}
+use Rattle.theory_lists.proofs.Between.{bounds-of}
 use Rattle.theory_decimal.specs.Written.{places, figure, figures, natural, whole}
 use Rattle.theory_decimal.specs.Read.{isFigure, allFigures, digitsOf, meant, sayingNatural, sayingWhole, negated}
 use Rattle.theory_decimal.specs.Plain.{Plain, PlainWhole, without-sign, with-sign}
 use Rattle.theory_decimal.proofs.Places.{places-some, places-hold, places-least}
-use Rattle.theory_decimal.proofs.Figures.{length-figures, figures-are, figures-mean, figure-is, digits-below-ten, figures-of-digits}
+use Rattle.theory_decimal.proofs.Figures.{length-figures, figures-are, figures-mean, digits-below-ten, figures-of-digits}
 
 -- ---- what figures say
 
-pub figures-say : (text : List ℕ) → 0 < length text → allFigures text ≡ true → sayingNatural text ≡ value (pos (meant text))
+pub figures-say : (text : List ℕ) → 0 < length text → allFigures text ≡ true → sayingNatural text ≡ answered (pos (meant text))
 unfolding sayingNatural
 figures-say [] h e = absurd (omega arith)
-figures-say (c ∷ text) h e = only-if-so (allFigures (c ∷ text)) (value (pos (meant (c ∷ text)))) e
+figures-say (c ∷ text) h e = only-if-so (allFigures (c ∷ text)) (answered (pos (meant (c ∷ text)))) e
 
 pub figures-have-no-sign : (text : List ℕ) → allFigures text ≡ true → sayingWhole text ≡ sayingNatural text
 unfolding sayingWhole sayingNatural allFigures
 figures-have-no-sign [] e = refl
 figures-have-no-sign (c ∷ text) e =
-    let f = figure-is c (both-are (isFigure c) (allFigures text) e .0) in
+    let f = bounds-of 0x30 0x39 c (both-are (isFigure c) (allFigures text) e .0) in
     let n : c ≡ 0x2d → ⊥ = λ s. omega (arith, f .0) in
     rw (ne-eqb c 0x2d n)
 
@@ -53,10 +52,10 @@ natural-figures n = figures-are (places 10 n) n
 natural-some : (n : ℕ) → 0 < length (natural n)
 natural-some n = let p : 1 < 10 = omega arith in omega (arith, length-natural n, places-some 10 p n)
 
-pub natural-said : (n : ℕ) → sayingNatural (natural n) ≡ value (pos n)
-natural-said n = figures-say (natural n) (natural-some n) (natural-figures n) ∙ ap (λ (m : ℕ). value (pos m)) (natural-means n)
+pub natural-said : (n : ℕ) → sayingNatural (natural n) ≡ answered (pos n)
+natural-said n = figures-say (natural n) (natural-some n) (natural-figures n) ∙ ap (λ (m : ℕ). answered (pos m)) (natural-means n)
 
-pub whole-said : (z : ℤ) → sayingWhole (whole z) ≡ value z
+pub whole-said : (z : ℤ) → sayingWhole (whole z) ≡ answered z
 unfolding whole sayingWhole negated
 whole-said (pos n) = figures-have-no-sign (natural n) (natural-figures n) ∙ natural-said n
 whole-said (negsuc n) = ap negated (natural-said (suc n))
@@ -80,7 +79,7 @@ module _ (c : ℕ) (rest : List ℕ) (e : allFigures (c ∷ rest) ≡ true) wher
 
   first-figure : (0x30 ≤ c) × (c ≤ 0x39)
   unfolding allFigures
-  first-figure = figure-is c (both-are (isFigure c) (allFigures rest) e .0)
+  first-figure = bounds-of 0x30 0x39 c (both-are (isFigure c) (allFigures rest) e .0)
 
   pub places-within : places 10 (meant (c ∷ rest)) ≤ suc (length rest)
   places-within = let p : 1 < 10 = omega arith in places-least 10 p (length rest) (meant (c ∷ rest)) (meant-below (c ∷ rest) e)
@@ -142,9 +141,9 @@ whole-plain (negsuc n) = with-sign (natural-plain (suc n)) (omega (arith, natura
 
 said : Answer → ℤ
 said refused = pos 0
-said (value z) = z
+said (answered z) = z
 
-pub whole-only : {text : List ℕ} → PlainWhole text → (z : ℤ) → sayingWhole text ≡ value z → text ≡ whole z
+pub whole-only : {text : List ℕ} → PlainWhole text → (z : ℤ) → sayingWhole text ≡ answered z → text ≡ whole z
 unfolding whole sayingWhole negated said
 whole-only (without-sign {text} p) z e =
     let says = figures-have-no-sign text (p .only-figures) ∙ figures-say text (p .some) (p .only-figures) in
@@ -152,7 +151,7 @@ whole-only (without-sign {text} p) z e =
     rw (← number) (natural-only text p)
 whole-only (with-sign {text} p some) z e = negative (meant text) refl some
   where
-    says : value (negℤ (pos (meant text))) ≡ value z
+    says : answered (negℤ (pos (meant text))) ≡ answered z
     says = ap negated (sym (figures-say text (p .some) (p .only-figures))) ∙ e
 
     negative : (n : ℕ) → meant text ≡ n → 0 < n → 0x2d ∷ text ≡ whole z

@@ -1,56 +1,77 @@
 -- Reading a part figure by figure.
-use mathlib.Core.Path.{_≡_, refl, sym, ap, subst, _∙_}
+use mathlib.Core.Path.{_≡_, refl, sym, ap, _∙_}
 use mathlib.Core.Bool.{Bool, true, false, _&&_}
 use mathlib.Core.List.{List, [], _∷_, _++_}
-use Prim.Native.Nat.{ℕ, suc, _+_, _-_, _*_, _^_, _≤_, _<_}
+use Prim.Native.Nat.{ℕ, _+_, _-_, _*_, _^_, _≤_, _<_}
 use native.Mathlib.Nat.{mul-one, one-le-pow, mul-le-mul-left}
 use native.Mathlib.Omega.{arith}
-use borrow.Author.Tests.{le-leb, lt-leb}
+use borrow.Author.Tests.{leb-true, leb-false}
 use lib.Dec.{leb}
 use lib.ListN.{length, getD}
 use lib.IntN.{ℤ, pos, negsuc}
 use lib.Pow.{pow-pos}
 use Rattle.theory_whole.specs.Kind.{Kind, unsigned}
-use Rattle.theory_whole.specs.Fit.{Answer, refused, value, only-if, refuse, Answers}
-use Rattle.theory_whole.proofs.Cases.{by-test, both, both-are, first-not, second-not, never}
+use Rattle.theory_answers.specs.Answer.{Answer, refused, answered, Answers}
+use Rattle.theory_whole.specs.Fit.{refuse}
+use Rattle.theory_whole.proofs.Cases.{by-test, both-are, never}
 use Rattle.theory_whole.proofs.Fits.{Out, under, over, real-unsigned}
-use Rattle.theory_whole.proofs.Refuse.{refusal, only-if-so, only-if-not, accepted, declined}
+use Rattle.theory_answers.proofs.Answer.{refusal, only-if-so, only-if-not}
+use Rattle.theory_whole.proofs.Refuse.{accepted, declined}
 use Rattle.theory_whole.proofs.Unsigned.{natural-fits, natural-over, unsigned-below}
-use Rattle.theory_lists.specs.Part.{part, Within}
-use Rattle.theory_lists.proofs.Part.{length-part, part-none, part-append, part-cons}
-use Rattle.theory_decimal.specs.Read.{isFigure, allFigures, meant, sayingNatural, fitting, pushed, naturalIn}
+use Rattle.theory_lists.specs.Part.{part, Within, isWithin}
+use Rattle.theory_lists.proofs.Part.{is-within, not-within, length-part, part-none, part-append, part-cons}
+use Rattle.theory_lists.proofs.Between.{is-between, not-below, not-above}
+use Rattle.theory_decimal.specs.Read.{isFigure, allFigures, meant, sayingNatural, sayingWhole, fitting, pushed, readIn, naturalIn}
 use Rattle.theory_decimal.proofs.Figures.{all-append, meant-append, meant-push}
 use Rattle.theory_decimal.proofs.Plain.{figures-say}
 
 pub other-text-refused : (text : List ℕ) → allFigures text ≡ false → sayingNatural text ≡ refused
 unfolding sayingNatural
 other-text-refused [] e = refl
-other-text-refused (c ∷ text) e = only-if-not (allFigures (c ∷ text)) (value (pos (meant (c ∷ text)))) e
+other-text-refused (c ∷ text) e = only-if-not (allFigures (c ∷ text)) (answered (pos (meant (c ∷ text)))) e
+
+-- ---- a part, by either reading
+
+module _ (saying : List ℕ → Answer) (k : Kind) (f t : ℕ) (s : List ℕ) where
+  pub past-the-end : length s < t → Answers false (pos 0) (readIn saying k f t s)
+  unfolding readIn
+  past-the-end h = refusal (readIn saying k f t s) (only-if-not (isWithin f t s) (fitting k (saying (part f t s))) (not-within (λ w. omega (arith, w .ends))))
+
+  -- the ends may be the wrong way round: then the part is empty
+  module _ (nothing : saying [] ≡ refused) where
+    empty-refused : t ≤ f → fitting k (saying (part f t s)) ≡ refused
+    unfolding fitting
+    empty-refused l = let e : t - f ≡ 0 = omega arith in rw (e, nothing)
+
+    pub read-part : t ≤ length s → readIn saying k f t s ≡ fitting k (saying (part f t s))
+    unfolding readIn
+    read-part h =
+        by-test (leb f t)
+        (λ e. only-if-so (isWithin f t s) (fitting k (saying (part f t s))) (is-within (record { ordered = leb-true f t e; ends = h })))
+        (λ e. let l = leb-false f t e in
+        only-if-not (isWithin f t s) (fitting k (saying (part f t s))) (not-within (λ w. omega (arith, w .ordered))) ∙ sym (empty-refused (omega arith)))
+
+    pub no-text : t ≤ length s → t ≤ f → Answers false (pos 0) (readIn saying k f t s)
+    no-text h l = refusal (readIn saying k f t s) (read-part h ∙ empty-refused l)
+
+pub no-natural : sayingNatural [] ≡ refused
+unfolding sayingNatural
+no-natural = refl
+
+pub no-whole : sayingWhole [] ≡ refused
+unfolding sayingWhole
+no-whole = refl
 
 module _ (k : Kind) (f t : ℕ) (s : List ℕ) where
-  pub past-the-end : length s < t → Answers false (pos 0) (naturalIn k f t s)
-  unfolding naturalIn
-  past-the-end h = refusal (naturalIn k f t s) (only-if-not (leb t (length s)) (fitting k (sayingNatural (part f t s))) (lt-leb t (length s) h))
-
-  pub within : t ≤ length s → naturalIn k f t s ≡ fitting k (sayingNatural (part f t s))
-  unfolding naturalIn
-  within h = only-if-so (leb t (length s)) (fitting k (sayingNatural (part f t s))) (le-leb t (length s) h)
-
-  pub no-text : t ≤ length s → t ≤ f → Answers false (pos 0) (naturalIn k f t s)
-  unfolding fitting sayingNatural
-  no-text h l =
-      let e : t - f ≡ 0 = omega arith in
-      refusal (naturalIn k f t s) (within h ∙ rw e)
-
   in-figures : f < t → t ≤ length s → allFigures (part f t s) ≡ true → naturalIn k f t s ≡ refuse k (pos (meant (part f t s)))
   unfolding fitting
   in-figures l h e =
       let w : Within f t s = record { ordered = omega arith; ends = h } in
-      within h ∙ ap (fitting k) (figures-say (part f t s) (omega (arith, length-part w)) e)
+      read-part sayingNatural k f t s no-natural h ∙ ap (fitting k) (figures-say (part f t s) (omega (arith, length-part w)) e)
 
   in-others : t ≤ length s → allFigures (part f t s) ≡ false → naturalIn k f t s ≡ refused
   unfolding fitting
-  in-others h e = within h ∙ ap (fitting k) (other-text-refused (part f t s) e)
+  in-others h e = read-part sayingNatural k f t s no-natural h ∙ ap (fitting k) (other-text-refused (part f t s) e)
 
 -- ---- one more figure
 
@@ -60,17 +81,15 @@ module _ (w n c : ℕ) where
   other e = refusal (pushed (unsigned w) n c) (only-if-not (isFigure c) (refuse (unsigned w) (pos (c - 0x30 + 10 * n))) e)
 
   pub other-below : c < 0x30 → Answers false (pos 0) (pushed (unsigned w) n c)
-  unfolding isFigure
-  other-below h = other (first-not (leb c 0x39) (lt-leb 0x30 c h))
+  other-below h = other (not-below 0x30 0x39 c h)
 
   pub other-above : 0x39 < c → Answers false (pos 0) (pushed (unsigned w) n c)
-  unfolding isFigure
-  other-above h = other (second-not (leb 0x30 c) (lt-leb c 0x39 h))
+  other-above h = other (not-above 0x30 0x39 c h)
 
   module _ (low : 0x30 ≤ c) (high : c ≤ 0x39) where
     figure-pushed : pushed (unsigned w) n c ≡ refuse (unsigned w) (pos (c - 0x30 + 10 * n))
-    unfolding pushed isFigure
-    figure-pushed = only-if-so (isFigure c) (refuse (unsigned w) (pos (c - 0x30 + 10 * n))) (both (le-leb 0x30 c low) (le-leb c 0x39 high))
+    unfolding pushed
+    figure-pushed = only-if-so (isFigure c) (refuse (unsigned w) (pos (c - 0x30 + 10 * n))) (is-between 0x30 0x39 c low high)
 
     pub figure-over : 2 ^ w ≤ c - 0x30 + 10 * n → Answers false (pos 0) (pushed (unsigned w) n c)
     figure-over h = rw figure-pushed (natural-over w h)

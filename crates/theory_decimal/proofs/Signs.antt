@@ -1,38 +1,24 @@
 -- Reading with a sign: '-' or none, and then a natural.
-use mathlib.Core.Path.{_≡_, refl, sym, ap, _∙_}
+use mathlib.Core.Path.{_≡_, refl}
 use mathlib.Core.Bool.{Bool, true, false}
-use mathlib.Core.List.{List, [], _∷_}
-use Prim.Native.Nat.{ℕ, _+_, _-_, _/_, _^_, _≤_, _<_}
+use mathlib.Core.List.{List}
+use Prim.Native.Nat.{ℕ, _+_, _-_, _≤_, _<_}
 use native.Mathlib.Omega.{arith}
-use borrow.Author.Tests.{le-leb, lt-leb, eq-eqb, ne-eqb}
-use lib.Dec.{leb, eqb}
+use borrow.Author.Tests.{eq-eqb, ne-eqb}
 use lib.ListN.{length, getD}
 use lib.IntN.{ℤ, pos, negℤ}
 use lib.Pow.{pow-pos}
-use Rattle.theory_whole.specs.Kind.{Kind, unsigned, signed}
-use Rattle.theory_whole.specs.Fit.{Answer, refused, value, only-if, refuse, Answers}
-use Rattle.theory_whole.proofs.Halves.{up, down, up-neg, down-neg}
-use Rattle.theory_whole.proofs.Fits.{Out, under, over, real-signed}
-use Rattle.theory_whole.proofs.Refuse.{refusal, only-if-so, only-if-not, refuses}
+use Rattle.theory_whole.specs.Kind.{unsigned, signed}
+use Rattle.theory_answers.specs.Answer.{Answer, Answers}
+use Rattle.theory_whole.specs.Fit.{refuse}
+use Rattle.theory_whole.proofs.Halves.{up-neg, down-neg}
+use Rattle.theory_whole.proofs.Fits.{under, over, real-signed}
+use Rattle.theory_whole.proofs.Refuse.{refuses}
 use Rattle.theory_lists.specs.Part.{part}
 use Rattle.theory_lists.proofs.Part.{part-cons}
 use Rattle.theory_decimal.specs.Read.{sayingNatural, sayingWhole, negated, fitting, naturalIn, wholeIn}
+use Rattle.theory_decimal.proofs.Reading.{read-part, no-whole}
 use Rattle.theory_decimal.proofs.Narrower.{RefusedOrOver, no-number, too-large, was-said, was-refused}
-
-module _ (k : Kind) (f t : ℕ) (s : List ℕ) where
-  pub whole-past-the-end : length s < t → Answers false (pos 0) (wholeIn k f t s)
-  unfolding wholeIn
-  whole-past-the-end h = refusal (wholeIn k f t s) (only-if-not (leb t (length s)) (fitting k (sayingWhole (part f t s))) (lt-leb t (length s) h))
-
-  whole-within : t ≤ length s → wholeIn k f t s ≡ fitting k (sayingWhole (part f t s))
-  unfolding wholeIn
-  whole-within h = only-if-so (leb t (length s)) (fitting k (sayingWhole (part f t s))) (le-leb t (length s) h)
-
-  pub no-whole-text : t ≤ length s → t ≤ f → Answers false (pos 0) (wholeIn k f t s)
-  unfolding fitting sayingWhole
-  no-whole-text h l =
-      let e : t - f ≡ 0 = omega arith in
-      refusal (wholeIn k f t s) (whole-within h ∙ rw e)
 
 -- the part that has the figures begins behind the sign, or where the text begins
 module _ (w f t : ℕ) (s : List ℕ) (inside : f < t) (h : t ≤ length s) where
@@ -61,19 +47,19 @@ module _ (w f t : ℕ) (s : List ℕ) (inside : f < t) (h : t ≤ length s) wher
   module _ (ok : Bool) (v : ℕ) (r : Answers ok (pos v) (naturalIn (unsigned w) (f + 1) t s)) (sign : getD s f 0 ≡ 0x2d) where
     pub negative-refused : ok ≡ false → Answers false (pos 0) (wholeIn (signed w) f t s)
     negative-refused o =
-        rw (whole-within (signed w) f t s h, negative-text sign) (negative-out (was-refused w (f + 1) t s ok v r o h))
+        rw (read-part sayingWhole (signed w) f t s no-whole h, negative-text sign) (negative-out (was-refused w (f + 1) t s ok v r o h))
 
     pub negative-read : ok ≡ true → (ok′ : Bool) (x : ℤ) → Answers ok′ x (refuse (signed w) (negℤ (pos v))) → Answers ok′ x (wholeIn (signed w) f t s)
     unfolding fitting negated
     negative-read o ok′ x a =
-        rw (whole-within (signed w) f t s h, negative-text sign, was-said w (f + 1) t s ok v r o) a
+        rw (read-part sayingWhole (signed w) f t s no-whole h, negative-text sign, was-said w (f + 1) t s ok v r o) a
 
   module _ (ok : Bool) (v : ℕ) (r : Answers ok (pos v) (naturalIn (unsigned w) f t s)) (no-sign : getD s f 0 ≡ 0x2d → ⊥) where
     pub positive-refused : ok ≡ false → Answers false (pos 0) (wholeIn (signed w) f t s)
     positive-refused o =
-        rw (whole-within (signed w) f t s h, text-without-sign no-sign) (large-out (was-refused w f t s ok v r o h))
+        rw (read-part sayingWhole (signed w) f t s no-whole h, text-without-sign no-sign) (large-out (was-refused w f t s ok v r o h))
 
     pub positive-read : ok ≡ true → (ok′ : Bool) (x : ℤ) → Answers ok′ x (refuse (signed w) (pos v)) → Answers ok′ x (wholeIn (signed w) f t s)
     unfolding fitting
     positive-read o ok′ x a =
-        rw (whole-within (signed w) f t s h, text-without-sign no-sign, was-said w f t s ok v r o) a
+        rw (read-part sayingWhole (signed w) f t s no-whole h, text-without-sign no-sign, was-said w f t s ok v r o) a

@@ -1,13 +1,12 @@
 -- Writing figures from the last to the first.
-use mathlib.Core.Path.{_≡_, refl, sym, ap, subst, _∙_}
-use mathlib.Core.List.{List, [], _∷_, _++_, map}
+use mathlib.Core.Path.{_≡_, sym, ap, subst, _∙_}
+use mathlib.Core.List.{List, [], _∷_, map}
 use Prim.Native.Nat.{ℕ, suc, _+_, _-_, _*_, _/_, _%_, _^_, _≤_, _<_}
 use native.Mathlib.Nat.{pow-zero, pow-suc, div-one, div-div-eq-div-mul, div-lt-iff-lt-mul, add-mul-div-left, mod-eq-of-lt, one-le-pow}
 use native.Mathlib.Omega.{arith}
 use lib.ListN.{length, set}
 use Rattle.theory_lists.specs.Written.{written}
 use Rattle.theory_lists.proofs.Written.{length-written, written-none, written-one, written-twice-down}
-use Rattle.theory_digits.specs.Digits.{digitsHigh}
 use Rattle.theory_digits.proofs.Digits.{lowest-of}
 use Rattle.theory_digits.proofs.High.{digitsHigh-push-highest}
 use Rattle.theory_decimal.specs.Written.{figure, figures}

@@ -2,12 +2,13 @@
 use mathlib.Core.Path.{_≡_}
 use mathlib.Core.Bool.{Bool, true, false, cond}
 use mathlib.Core.List.{List, _∷_, map}
-use Prim.Native.Nat.{ℕ, zero, suc, _+_, _/_}
+use Prim.Native.Nat.{ℕ, zero, suc, _+_, _/_, _≤_}
 use lib.Dec.{ltb}
 use lib.IntN.{ℤ, pos, negsuc}
 use lib.ListN.{length}
+use Rattle.theory_answers.specs.Says.{Outcome}
+use Rattle.theory_lists.specs.Written.{written}
 use Rattle.theory_digits.specs.Digits.{digitsHigh}
-use Rattle.theory_digits.specs.Answers.{Writes}
 
 -- how many digits n has in the base b, where so many divisions are enough
 unfoldable pub placesIn : ℕ → ℕ → ℕ → ℕ
@@ -30,14 +31,14 @@ unfoldable pub natural : ℕ → List ℕ
 natural n = figures (places 10 n) n
 
 -- with '-' in front, which is 0x2d, or without
-abbrev pub signed : Bool → ℕ → List ℕ
-signed negative n = cond negative (0x2d ∷ natural n) (natural n)
+abbrev pub withSign : Bool → ℕ → List ℕ
+withSign negative n = cond negative (0x2d ∷ natural n) (natural n)
 
 unfoldable pub whole : ℤ → List ℕ
-whole (pos n) = signed false n
-whole (negsuc n) = signed true (suc n)
+whole (pos n) = withSign false n
+whole (negsuc n) = withSign true (suc n)
 
--- how a writer of decimal text answers: whether there was room, how many bytes it wrote, and what it leaves
-pub record Shows (ok : Bool) (bytes : ℕ) (before : List ℕ) (at : ℕ) (text after : List ℕ) : Type 0 where
-  pub writes : Writes ok before at text after
-  pub count : bytes ≡ cond ok (length text) 0
+-- how a writer of decimal text answers, and what it leaves: how many bytes it wrote, and 0 where there was no room
+abbrev pub Shows : Bool → ℕ → List ℕ → ℕ → List ℕ → List ℕ → Type 0
+Shows ok bytes before at text after =
+    Outcome ok (at + length text ≤ length before) ((bytes ≡ length text) × (after ≡ written before at text)) ((bytes ≡ 0) × (after ≡ before))

@@ -1,29 +1,39 @@
 -- Regrouping into a larger base and back: each is the other's inverse, and neither changes the number.
 use mathlib.Core.Path.{_≡_, refl, sym, ap, _∙_}
 use mathlib.Core.List.{List, [], _∷_, _++_, reverse, reverse-reverse}
-use Prim.Native.Nat.{ℕ, zero, suc, _+_, _*_, _/_, _%_, _^_, _<_}
-use native.Mathlib.Nat.{add-comm, suc-mul, zero-mul, pow-zero, pow-suc, one-le-pow, div-mul-cancel, dvd-of-mod-eq-zero}
+use Prim.Native.Nat.{ℕ, zero, suc, _+_, _*_, _/_, _%_, _^_, _≤_, _<_}
+use native.Mathlib.Nat.{add-comm, suc-mul, zero-mul, pow-zero, pow-suc, one-le-pow, div-mul-cancel, dvd-of-mod-eq-zero, le-div-iff-mul-le, eq-of-mul-eq-mul-right}
+use native.Mathlib.Omega.{arith}
 use lib.ListN.{length, length-append, length-reverse}
 use lib.Pow.{pow-add}
 use lib.Seq.{take-at, drop-at, take-length}
-use Rattle.theory_digits.specs.Digits.{digits, value, AllBelow, valueHigh}
-use Rattle.theory_digits.specs.Bases.{pieces, larger, smaller, largerHigh, smallerHigh}
+use Rattle.theory_lists.specs.Bounds.{AllBelow}
+use Rattle.theory_lists.proofs.Below.{below-append, below-reverse}
+use Rattle.theory_lists.specs.Pieces.{first-pieces}
+use Rattle.theory_digits.specs.Digits.{digits, value, valueHigh}
+use Rattle.theory_digits.specs.Bases.{larger, smaller, largerHigh, smallerHigh}
 use Rattle.theory_digits.proofs.Digits.{length-digits, digits-below, value-below, value-of-lowest, value-of-digits, digits-of-value, value-injective, digits-append, value-append}
-use Rattle.theory_digits.proofs.High.{below-append, below-reverse}
 
 -- the larger base, to the power m, is the smaller one to the power m * k
 pub power-of-power : (b m k : ℕ) → (b ^ k) ^ m ≡ b ^ (m * k)
 power-of-power b zero k = rw (pow-zero, zero-mul, pow-zero)
 power-of-power b (suc m) k = rw (pow-suc, power-of-power b m k, suc-mul, pow-add)
 
+-- what leaves no remainder by k is so many times k: digits that can be regrouped have the length that the laws below ask for, with m = length ds / k
+pub whole-pieces : (k n : ℕ) → n % k ≡ 0 → n ≡ n / k * k
+whole-pieces k n e = sym (div-mul-cancel k (dvd-of-mod-eq-zero k e))
+
 -- bases of s and of t bits, where s divides t: t / s digits make one
 pub base-of-bits : (s t : ℕ) → t % s ≡ 0 → (2 ^ s) ^ (t / s) ≡ 2 ^ t
-base-of-bits s t e = power-of-power 2 (t / s) s ∙ ap (λ (n : ℕ). 2 ^ n) (div-mul-cancel s (dvd-of-mod-eq-zero s e))
+base-of-bits s t e = power-of-power 2 (t / s) s ∙ ap (λ (n : ℕ). 2 ^ n) (sym (whole-pieces s t e))
+
+pub some-make-one : {s t : ℕ} → 0 < s → s ≤ t → 0 < t / s
+some-make-one {s} {t} some l = le-div-iff-mul-le {k = s} {x = 1} {y = t} some .1 (omega arith)
 
 -- ---- of the digits of a number
 
 pub larger-of-digits : (b m k n : ℕ) → 0 < b → larger b m k (digits b (m * k) n) ≡ digits (b ^ k) m n
-unfolding larger pieces digits
+unfolding larger first-pieces digits
 larger-of-digits b zero k n p = refl
 larger-of-digits b (suc m) k n p =
     let s : digits b (suc m * k) n ≡ digits b k n ++ digits b (m * k) (n / b ^ k) = rw (suc-mul, add-comm) (digits-append b k (m * k) n) in
@@ -81,16 +91,19 @@ larger-of-smaller b k p ds h =
     (length-larger b (length ds) k p (smaller b k ds) s l)
     (value-larger b (length ds) k p (smaller b k ds) s l ∙ value-smaller b k ds p h)
 
-pub larger-injective : (b m k : ℕ) → 0 < b → (ds es : List ℕ) → AllBelow b ds → AllBelow b es → length ds ≡ m * k → length es ≡ m * k → larger b m k ds ≡ larger b m k es → ds ≡ es
-larger-injective b m k p ds es h g l l′ e =
-    sym (smaller-of-larger b m k p ds h l) ∙ rw e (smaller-of-larger b m k p es g l′)
+pub larger-injective : (b m n k : ℕ) → 0 < b → (ds es : List ℕ) → AllBelow b ds → AllBelow b es
+    → length ds ≡ m * k → length es ≡ n * k → larger b m k ds ≡ larger b n k es → ds ≡ es
+larger-injective b m n k p ds es h g l l′ e =
+    sym (smaller-of-larger b m k p ds h l) ∙ rw e (smaller-of-larger b n k p es g l′)
 
-pub smaller-injective : (b k : ℕ) → 0 < b → (ds es : List ℕ) → AllBelow (b ^ k) ds → AllBelow (b ^ k) es → length ds ≡ length es → smaller b k ds ≡ smaller b k es → ds ≡ es
-smaller-injective b k p ds es h g l e = sym (larger-of-smaller b k p ds h) ∙ rw (l, e) (larger-of-smaller b k p es g)
+pub smaller-injective : (b k : ℕ) → 0 < b → 0 < k → (ds es : List ℕ) → AllBelow (b ^ k) ds → AllBelow (b ^ k) es → smaller b k ds ≡ smaller b k es → ds ≡ es
+smaller-injective b k p some ds es h g e =
+    let l : length ds ≡ length es = eq-of-mul-eq-mul-right k some (length ds) (length es) (sym (length-smaller b k ds) ∙ ap length e ∙ length-smaller b k es) in
+    sym (larger-of-smaller b k p ds h) ∙ rw (l, e) (larger-of-smaller b k p es g)
 
 -- digits that make a single one
 pub larger-one : (b : ℕ) (ds : List ℕ) → larger b 1 (length ds) ds ≡ value b ds ∷ []
-unfolding larger pieces
+unfolding larger first-pieces
 larger-one b ds = rw take-length
 
 -- ---- highest first

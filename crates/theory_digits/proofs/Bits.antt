@@ -8,7 +8,8 @@ use native.Mathlib.Numerals.{add-one}
 use native.Mathlib.Omega.{arith}
 use lib.ListN.{replicate, length-replicate, replicate-append-replicate}
 use lib.Pow.{pow-pos, mod-pow-add, shl-shr}
-use Rattle.theory_digits.specs.Digits.{digits, value, AllBelow}
+use Rattle.theory_lists.specs.Bounds.{AllBelow}
+use Rattle.theory_digits.specs.Digits.{digits, value}
 use Rattle.theory_digits.proofs.Digits.{digits-of-value, value-of-lowest, digits-of-remainder, divided-twice}
 
 -- ---- all alike

@@ -9,12 +9,12 @@ use Rattle.theory_digits.proofs.Ends.{trailing-within, leading-within, 
 
 -- what is known while w - n digits are shifted out of x
 pub record LeadingCount (w x n rest : ℕ) : Type 0 where
-  pub within : n ≤ w
+  pub at-most : n ≤ w
   pub left : rest ≡ x / 2 ^ (w - n)
   pub reached : leading 0 w x ≤ n
 
 pub record TrailingCount (w x n rest : ℕ) : Type 0 where
-  pub within : n ≤ w
+  pub at-most : n ≤ w
   pub left : rest ≡ x * 2 ^ (w - n) % 2 ^ w
   pub reached : trailing 0 w x ≤ n
 
@@ -26,46 +26,46 @@ twice a m =
 
 module _ (w : ℕ) {x : ℕ} (b : x < 2 ^ w) where
   pub leading-start : LeadingCount w x w x
-  leading-start = record { within = omega arith; left = rw (sub-self, pow-zero) (sym (div-one x)); reached = leading-within 0 w x }
+  leading-start = record { at-most = omega arith; left = rw (sub-self, pow-zero) (sym (div-one x)); reached = leading-within 0 w x }
 
   module _ {n rest : ℕ} (k : LeadingCount w x n rest) where
     pub leading-more : (rest ≡ 0 → ⊥) → leading 0 w x < n
-    leading-more f = let g : n ≤ leading 0 w x → ⊥ = λ a. f (k .left ∙ leading-shifted x (k .within) b .0 a) in omega arith
+    leading-more f = let g : n ≤ leading 0 w x → ⊥ = λ a. f (k .left ∙ leading-shifted x (k .at-most) b .0 a) in omega arith
 
     pub leading-next : (rest ≡ 0 → ⊥) → LeadingCount w x (n - 1) (rest / 2)
     leading-next f =
         let m = leading-more f in
-        let e : w - (n - 1) ≡ w - n + 1 = omega (arith, k .within) in
+        let e : w - (n - 1) ≡ w - n + 1 = omega (arith, k .at-most) in
         record {
-          within = omega (arith, k .within);
+          at-most = omega (arith, k .at-most);
           left = ap (λ (r : ℕ). r / 2) (k .left) ∙ rw e (shr-shr x (w - n) 1);
           reached = omega arith;
         }
 
     pub leading-end : rest ≡ 0 → n ≡ leading 0 w x
-    leading-end e = omega (arith, leading-shifted x (k .within) b .1 (sym (k .left) ∙ e), k .reached)
+    leading-end e = omega (arith, leading-shifted x (k .at-most) b .1 (sym (k .left) ∙ e), k .reached)
 
   pub trailing-start : TrailingCount w x w x
   trailing-start = record {
-    within = omega arith;
+    at-most = omega arith;
     left = rw (sub-self, pow-zero, mul-one) (sym (mod-eq-of-lt b));
     reached = trailing-within 0 w x;
   }
 
   module _ {n rest : ℕ} (k : TrailingCount w x n rest) where
     pub trailing-more : (rest ≡ 0 → ⊥) → trailing 0 w x < n
-    trailing-more f = let g : n ≤ trailing 0 w x → ⊥ = λ a. f (k .left ∙ trailing-shifted x (k .within) .0 a) in omega arith
+    trailing-more f = let g : n ≤ trailing 0 w x → ⊥ = λ a. f (k .left ∙ trailing-shifted x (k .at-most) .0 a) in omega arith
 
     pub trailing-next : (rest ≡ 0 → ⊥) → TrailingCount w x (n - 1) (rest * 2 % 2 ^ w)
     trailing-next f =
         let m = trailing-more f in
-        let e : w - (n - 1) ≡ suc (w - n) = omega (arith, k .within) in
+        let e : w - (n - 1) ≡ suc (w - n) = omega (arith, k .at-most) in
         record {
-          within = omega (arith, k .within);
+          at-most = omega (arith, k .at-most);
           left = ap (λ (r : ℕ). r * 2 % 2 ^ w) (k .left)
               ∙ twice (x * 2 ^ (w - n)) (2 ^ w) ∙ rw (e, pow-suc, mul-assoc);
           reached = omega arith;
         }
 
     pub trailing-end : rest ≡ 0 → n ≡ trailing 0 w x
-    trailing-end e = omega (arith, trailing-shifted x (k .within) .1 (sym (k .left) ∙ e), k .reached)
+    trailing-end e = omega (arith, trailing-shifted x (k .at-most) .1 (sym (k .left) ∙ e), k .reached)

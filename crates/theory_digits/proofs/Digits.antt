@@ -6,7 +6,8 @@ use native.Mathlib.Nat.{zero-add, suc-add, mul-comm, mul-assoc, mul-add, mul-suc
 use native.Mathlib.Omega.{arith}
 use lib.Arith.{mod-mul}
 use lib.ListN.{length, getD}
-use Rattle.theory_digits.specs.Digits.{digits, value, AllBelow}
+use Rattle.theory_lists.specs.Bounds.{AllBelow}
+use Rattle.theory_digits.specs.Digits.{digits, value}
 
 -- ---- length and bounds
 

@@ -16,8 +16,8 @@ apart (suc d) w x = 2 ^ w - 1 - x
 
 module _ (d w x t : ℕ) where
   -- no more than there are
-  abbrev pub Within : Type 0
-  Within = t ≤ w
+  abbrev pub AtMost : Type 0
+  AtMost = t ≤ w
 
   -- all of them just where x has no other digit
   abbrev pub All : Type 0
@@ -45,14 +45,14 @@ module _ (d w x t : ℕ) where
   HighShifted = apart d w x / 2 ^ (w - t) ≡ 0
 
 pub record AtLow (d w x t : ℕ) : Type 0 where
-  pub within : Within d w x t
+  pub at-most : AtMost d w x t
   pub all : All d w x t
   pub next : LowNext d w x t
   pub shifted : LowShifted d w x t
   pub before : LowBefore d w x t
 
 pub record AtHigh (d w x t : ℕ) : Type 0 where
-  pub within : Within d w x t
+  pub at-most : AtMost d w x t
   pub all : All d w x t
   pub next : HighNext d w x t
   pub shifted : HighShifted d w x t
@@ -79,7 +79,7 @@ high-shifted (suc (suc d)) w x h b = absurd (omega arith)
 module _ (d w x : ℕ) (h : d < 2) (b : x < 2 ^ w) where
   pub low-facts : AtLow d w x (trailing d w x)
   low-facts = record {
-    within = trailing-within d w x;
+    at-most = trailing-within d w x;
     all = trailing-all h b;
     next = λ l. (let n : x / 2 ^ trailing d w x % 2 ≡ d → ⊥ = trailing-ended d w x l in omega arith);
     shifted = low-shifted d w x h b;
@@ -88,7 +88,7 @@ module _ (d w x : ℕ) (h : d < 2) (b : x < 2 ^ w) where
 
   pub high-facts : AtHigh d w x (leading d w x)
   high-facts = record {
-    within = leading-within d w x;
+    at-most = leading-within d w x;
     all = leading-all h b;
     next = λ l. (let n : x / 2 ^ (w - 1 - leading d w x) % 2 ≡ d → ⊥ = leading-ended d w x l in omega arith);
     shifted = high-shifted d w x h b;
@@ -98,13 +98,13 @@ module _ (d w x : ℕ) (h : d < 2) (b : x < 2 ^ w) where
 -- ---- enough of them
 
 module _ (d w x t : ℕ) (h : d < 2) where
-  pub low-by-bits : Within d w x t → LowNext d w x t → LowBefore d w x t → t ≡ trailing d w x
-  low-by-bits within next before = trailing-is d w x t within before (λ l e. omega (arith, next l))
+  pub low-by-bits : AtMost d w x t → LowNext d w x t → LowBefore d w x t → t ≡ trailing d w x
+  low-by-bits at-most next before = trailing-is d w x t at-most before (λ l e. omega (arith, next l))
 
-  pub high-by-bits : Within d w x t → HighNext d w x t → HighBefore d w x t → t ≡ leading d w x
-  high-by-bits within next before = leading-is d w x t within before (λ l e. omega (arith, next l))
+  pub high-by-bits : AtMost d w x t → HighNext d w x t → HighBefore d w x t → t ≡ leading d w x
+  high-by-bits at-most next before = leading-is d w x t at-most before (λ l e. omega (arith, next l))
 
-  -- `all` in place of `within`: where every digit is d there is no more to count
+  -- `all` in place of `at-most`: where every digit is d there is no more to count
   module _ (b : x < 2 ^ w) where
     pub low-by-all : All d w x t → LowNext d w x t → LowBefore d w x t → t ≡ trailing d w x
     low-by-all all next before =
@@ -122,31 +122,31 @@ module _ (d w x t : ℕ) (h : d < 2) where
 
 -- `shifted` in place of `before`
 low-reaches : (d w x t : ℕ) → d < 2 → x < 2 ^ w → t ≤ w → LowShifted d w x t → t ≤ trailing d w x
-low-reaches zero w x t h b within s = trailing-shifted x within .1 s
-low-reaches (suc zero) w x t h b within s = rw (trailing-ones w b) (trailing-shifted (2 ^ w - 1 - x) within .1 s)
-low-reaches (suc (suc d)) w x t h b within s = absurd (omega arith)
+low-reaches zero w x t h b at-most s = trailing-shifted x at-most .1 s
+low-reaches (suc zero) w x t h b at-most s = rw (trailing-ones w b) (trailing-shifted (2 ^ w - 1 - x) at-most .1 s)
+low-reaches (suc (suc d)) w x t h b at-most s = absurd (omega arith)
 
 high-reaches : (d w x t : ℕ) → d < 2 → x < 2 ^ w → t ≤ w → HighShifted d w x t → t ≤ leading d w x
-high-reaches zero w x t h b within s = leading-shifted x within b .1 s
-high-reaches (suc zero) w x t h b within s = rw (leading-ones w b) (leading-shifted (2 ^ w - 1 - x) within (complement-below w x) .1 s)
-high-reaches (suc (suc d)) w x t h b within s = absurd (omega arith)
+high-reaches zero w x t h b at-most s = leading-shifted x at-most b .1 s
+high-reaches (suc zero) w x t h b at-most s = rw (leading-ones w b) (leading-shifted (2 ^ w - 1 - x) at-most (complement-below w x) .1 s)
+high-reaches (suc (suc d)) w x t h b at-most s = absurd (omega arith)
 
 module _ (d w x t : ℕ) (h : d < 2) (b : x < 2 ^ w) where
-  pub low-by-shift : Within d w x t → LowNext d w x t → LowShifted d w x t → t ≡ trailing d w x
-  low-by-shift within next s =
-      let reach = low-reaches d w x t h b within s in
-      low-by-bits d w x t h within next (λ j l. trailing-before d w x j (omega arith))
+  pub low-by-shift : AtMost d w x t → LowNext d w x t → LowShifted d w x t → t ≡ trailing d w x
+  low-by-shift at-most next s =
+      let reach = low-reaches d w x t h b at-most s in
+      low-by-bits d w x t h at-most next (λ j l. trailing-before d w x j (omega arith))
 
-  pub high-by-shift : Within d w x t → HighNext d w x t → HighShifted d w x t → t ≡ leading d w x
-  high-by-shift within next s =
-      let reach = high-reaches d w x t h b within s in
-      high-by-bits d w x t h within next (λ j a l. leading-before d w x j (omega arith) l)
+  pub high-by-shift : AtMost d w x t → HighNext d w x t → HighShifted d w x t → t ≡ leading d w x
+  high-by-shift at-most next s =
+      let reach = high-reaches d w x t h b at-most s in
+      high-by-bits d w x t h at-most next (λ j a l. leading-before d w x j (omega arith) l)
 
 -- ---- so the whole list pins its answer
 
 pub low-pinned : (d w x s t : ℕ) → d < 2 → AtLow d w x s → AtLow d w x t → s ≡ t
-low-pinned d w x s t h p q = low-by-bits d w x s h (p .within) (p .next) (p .before) ∙ sym (low-by-bits d w x t h (q .within) (q .next) (q .before))
+low-pinned d w x s t h p q = low-by-bits d w x s h (p .at-most) (p .next) (p .before) ∙ sym (low-by-bits d w x t h (q .at-most) (q .next) (q .before))
 
 pub high-pinned : (d w x s t : ℕ) → d < 2 → AtHigh d w x s → AtHigh d w x t → s ≡ t
 high-pinned d w x s t h p q =
-    high-by-bits d w x s h (p .within) (p .next) (p .before) ∙ sym (high-by-bits d w x t h (q .within) (q .next) (q .before))
+    high-by-bits d w x s h (p .at-most) (p .next) (p .before) ∙ sym (high-by-bits d w x t h (q .at-most) (q .next) (q .before))

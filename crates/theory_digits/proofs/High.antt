@@ -5,7 +5,9 @@ use Prim.Native.Nat.{ℕ, zero, suc, _+_, _-_, _*_, _/_, _%_, _^_, _<_}
 use native.Mathlib.Nat.{mul-comm}
 use native.Mathlib.Omega.{arith}
 use lib.ListN.{length, getD, length-reverse}
-use Rattle.theory_digits.specs.Digits.{digits, value, AllBelow, digitsHigh, valueHigh, placed}
+use Rattle.theory_lists.specs.Bounds.{AllBelow}
+use Rattle.theory_lists.proofs.Below.{below-reverse}
+use Rattle.theory_digits.specs.Digits.{digits, value, digitsHigh, valueHigh, placed}
 use Rattle.theory_digits.proofs.Digits.{length-digits, digits-below, value-below, value-of-digits, digits-of-value, value-injective, digits-injective, value-append, digits-append}
 use Rattle.theory_digits.proofs.Parts.{value-push-highest, digits-push-highest}
 
@@ -13,16 +15,6 @@ use Rattle.theory_digits.proofs.Parts.{value-push-highest, digits-push-
 
 pub length-digitsHigh : (b count n : ℕ) → length (digitsHigh b count n) ≡ count
 length-digitsHigh b count n = length-reverse (digits b count n) ∙ length-digits b count n
-
-pub below-append : (b : ℕ) (ds es : List ℕ) → AllBelow b ds → AllBelow b es → AllBelow b (ds ++ es)
-unfolding AllBelow
-below-append b [] es h g = g
-below-append b (d ∷ ds) es h g = (h .0, below-append b ds es (h .1) g)
-
-pub below-reverse : (b : ℕ) (ds : List ℕ) → AllBelow b ds → AllBelow b (reverse ds)
-unfolding AllBelow
-below-reverse b [] h = tt
-below-reverse b (d ∷ ds) h = rw reverse-cons (below-append b (reverse ds) (d ∷ []) (below-reverse b ds (h .1)) (h .0, tt))
 
 pub digitsHigh-below : (b count n : ℕ) → 0 < b → AllBelow b (digitsHigh b count n)
 digitsHigh-below b count n p = below-reverse b (digits b count n) (digits-below b count n p)
@@ -38,7 +30,7 @@ valueHigh-of-digitsHigh b count n p h = rw reverse-reverse (value-of-digits b co
 pub digitsHigh-of-valueHigh : (b : ℕ) (ds : List ℕ) → AllBelow b ds → digitsHigh b (length ds) (valueHigh b ds) ≡ ds
 digitsHigh-of-valueHigh b ds h = rw (← length-reverse ds, digits-of-value b (reverse ds) (below-reverse b ds h)) (reverse-reverse ds)
 
-reverse-injective : (ds es : List ℕ) → reverse ds ≡ reverse es → ds ≡ es
+pub reverse-injective : (ds es : List ℕ) → reverse ds ≡ reverse es → ds ≡ es
 reverse-injective ds es e = sym (reverse-reverse ds) ∙ rw e (reverse-reverse es)
 
 pub valueHigh-injective : (b : ℕ) (ds es : List ℕ) → AllBelow b ds → AllBelow b es → length ds ≡ length es → valueHigh b ds ≡ valueHigh b es → ds ≡ es

@@ -1,13 +1,16 @@
 pub mod Digits
 pub mod Parts
 pub mod High
+pub mod PartsHigh
 pub mod Bases
+pub mod BasesHigh
 pub mod Runs
 pub mod Bits
 pub mod Ends
 pub mod Counting
 pub mod Reading
-pub mod Writing
 pub mod Facts
+pub mod Enough
 pub mod TooFew
+pub mod WhichPin
 pub mod Powers

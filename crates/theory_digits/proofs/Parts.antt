@@ -8,33 +8,9 @@ use native.Mathlib.Omega.{arith}
 use lib.Arith.{mod-mul}
 use lib.ListN.{length, getD, take, drop}
 use lib.Seq.{take-at, drop-at}
-use Rattle.theory_digits.specs.Digits.{digits, value, AllBelow}
+use Rattle.theory_lists.specs.Bounds.{AllBelow}
+use Rattle.theory_digits.specs.Digits.{digits, value}
 use Rattle.theory_digits.proofs.Digits.{length-digits, value-below, lowest-of, others-of, value-append, digits-append, divided-twice}
-
--- ---- each below the base
-
-pub below-at : (b i : ℕ) (ds : List ℕ) → AllBelow b ds → i < length ds → getD ds i 0 < b
-unfolding AllBelow
-below-at b i [] h l = absurd (omega arith)
-below-at b zero (d ∷ ds) h l = h .0
-below-at b (suc i) (d ∷ ds) h l = below-at b i ds (h .1) (omega arith)
-
-pub all-below : (b : ℕ) (ds : List ℕ) → ((i : ℕ) → i < length ds → getD ds i 0 < b) → AllBelow b ds
-unfolding AllBelow
-all-below b [] f = tt
-all-below b (d ∷ ds) f = (f 0 (omega arith), all-below b ds (λ i l. f (suc i) (omega arith)))
-
-pub below-take : (b k : ℕ) (ds : List ℕ) → AllBelow b ds → AllBelow b (take k ds)
-unfolding AllBelow
-below-take b zero ds h = tt
-below-take b (suc k) [] h = tt
-below-take b (suc k) (d ∷ ds) h = (h .0, below-take b k ds (h .1))
-
-pub below-drop : (b k : ℕ) (ds : List ℕ) → AllBelow b ds → AllBelow b (drop k ds)
-unfolding AllBelow
-below-drop b zero ds h = h
-below-drop b (suc k) [] h = tt
-below-drop b (suc k) (d ∷ ds) h = below-drop b k ds (h .1)
 
 -- ---- of digits that are given
 

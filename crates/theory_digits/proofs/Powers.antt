@@ -1,9 +1,10 @@
 -- Powers of two, and masks of the n lowest bits, 2 ^ n - 1. What the kit has of them is not repeated.
 use mathlib.Core.Path.{_≡_, refl, sym, ap, _∙_}
 use mathlib.Core.Bool.{true}
+use mathlib.Core.Logic.{_↔_}
 use mathlib.Core.List.{List, [], _∷_}
 use Prim.Native.Nat.{ℕ, zero, suc, _+_, _-_, _*_, _/_, _%_, _^_, _≤_, _<_}
-use native.Mathlib.Nat.{sub-add-cancel, mul-div-cancel, pow-suc}
+use native.Mathlib.Nat.{sub-add-cancel, mul-div-cancel, pow-suc, le-div-iff-mul-le}
 use native.Mathlib.Omega.{arith}
 use borrow.Author.Tests.{eq-eqb, eqb-true}
 use lib.Dec.{eqb}
@@ -24,6 +25,10 @@ power-below-largest {n} {w} l h =
     let under : 2 ^ n ≤ 2 ^ (w - 1) = pow-mono {i = n} {j = w - 1} (omega arith) in
     let some : 2 ^ 1 ≤ 2 ^ (w - 1) = pow-mono {i = 1} {j = w - 1} (omega arith) in
     omega arith
+
+-- a product with a power is at most m exactly where the other factor is at most m shifted down
+pub product-at-most : (x n m : ℕ) → (x * 2 ^ n ≤ m) ↔ (x ≤ m / 2 ^ n)
+product-at-most x n m = let e = le-div-iff-mul-le {k = 2 ^ n} {x = x} {y = m} (pow-pos n) in (e .1, e .0)
 
 -- ---- told by halving
 
@@ -108,6 +113,7 @@ pub masks-to-64 : masks 0 65 ≡
     ∷ 0xffffffffffffffff ∷ []
 masks-to-64 = refl
 
--- the largest numbers of 8, 16, 32 and 64 bits
+-- the largest numbers of 8, 16, 32, 64 and 128 bits
 pub largest : (2 ^ 8 - 1 ≡ 0xff) × (2 ^ 16 - 1 ≡ 0xffff) × (2 ^ 32 - 1 ≡ 0xffffffff) × (2 ^ 64 - 1 ≡ 0xffffffffffffffff)
-largest = (refl, refl, refl, refl)
+    × (2 ^ 128 - 1 ≡ 0xffffffffffffffffffffffffffffffff)
+largest = (refl, refl, refl, refl, refl)

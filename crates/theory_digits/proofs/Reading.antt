@@ -10,12 +10,14 @@ use lib.Dec.{eqb}
 use lib.IntN.{pos}
 use lib.ListN.{length, getD, take, length-reverse}
 use lib.Seq.{take-suc, take-all}
-use Rattle.theory_whole.specs.Fit as fit
+use Rattle.theory_answers.specs.Answer.{answered, only-if, Answers}
 use Rattle.theory_whole.proofs.Cases.{by-test}
-use Rattle.theory_digits.specs.Digits.{digits, value, AllBelow, digitsHigh, valueHigh}
-use Rattle.theory_digits.specs.Answers.{number, numberHigh}
+use Rattle.theory_lists.specs.Bounds.{AllBelow}
+use Rattle.theory_lists.proofs.Below.{all-below, below-reverse}
+use Rattle.theory_digits.specs.Digits.{digits, value, digitsHigh, valueHigh}
+use Rattle.theory_digits.specs.Number.{number, numberHigh}
 use Rattle.theory_digits.proofs.Digits.{length-digits, value-of-digits, digits-of-value}
-use Rattle.theory_digits.proofs.High.{below-reverse, valueHigh-push-lowest}
+use Rattle.theory_digits.proofs.High.{valueHigh-push-lowest}
 
 -- ---- element by element
 
@@ -52,44 +54,39 @@ read-down-is b k s l = read-so-far b k s (omega arith) ∙ ap (valueHigh b) (tak
 
 -- ---- what is read, and what is refused
 
-below-each : (b : ℕ) (s : List ℕ) → ((i : ℕ) → getD s i 0 < b) → AllBelow b s
-unfolding AllBelow
-below-each b [] h = tt
-below-each b (x ∷ s) h = (h 0, below-each b s (λ i. h (suc i)))
-
-pub number-read : {v : ℕ} (b count : ℕ) (s : List ℕ) → length s ≡ count → v ≡ value b s → fit.Answers true (pos v) (number b count s)
-unfolding number fit.only-if
+pub number-read : {v : ℕ} (b count : ℕ) (s : List ℕ) → length s ≡ count → v ≡ value b s → Answers true (pos v) (number b count s)
+unfolding number only-if
 number-read b count s l e = rw (eq-eqb (length s) count l) (refl, ap pos e)
 
 -- by the number that the digits are the other way round
 pub numberHigh-read : {v x : ℕ} (b count : ℕ) (s : List ℕ) → length s ≡ count → ((i : ℕ) → getD s i 0 < b) → x ≡ value b s → v ≡ valueHigh b (digits b count x)
-    → fit.Answers true (pos v) (numberHigh b count s)
+    → Answers true (pos v) (numberHigh b count s)
 unfolding numberHigh
 numberHigh-read {v} {x} b count s l h e f =
-    let d : digits b count x ≡ s = rw (e, ← l) (digits-of-value b s (below-each b s h)) in
+    let d : digits b count x ≡ s = rw (e, ← l) (digits-of-value b s (all-below b s (λ i _. h i))) in
     number-read b count (reverse s) (length-reverse s ∙ l) (f ∙ ap (valueHigh b) d)
 
-pub number-refused : (b count : ℕ) (s : List ℕ) → (length s ≡ count → ⊥) → fit.Answers false (pos 0) (number b count s)
-unfolding number fit.only-if
+pub number-refused : (b count : ℕ) (s : List ℕ) → (length s ≡ count → ⊥) → Answers false (pos 0) (number b count s)
+unfolding number only-if
 number-refused b count s n = rw (ne-eqb (length s) count n) (refl, refl)
 
-pub numberHigh-refused : (b count : ℕ) (s : List ℕ) → (length s ≡ count → ⊥) → fit.Answers false (pos 0) (numberHigh b count s)
+pub numberHigh-refused : (b count : ℕ) (s : List ℕ) → (length s ≡ count → ⊥) → Answers false (pos 0) (numberHigh b count s)
 unfolding numberHigh
 numberHigh-refused b count s n = number-refused b count (reverse s) (λ e. n (sym (length-reverse s) ∙ e))
 
 -- ---- there and back
 
 module _ (b count : ℕ) (p : 0 < b) where
-  pub number-of-digits : (n : ℕ) → n < b ^ count → number b count (digits b count n) ≡ fit.value (pos n)
-  unfolding number fit.only-if
+  pub number-of-digits : (n : ℕ) → n < b ^ count → number b count (digits b count n) ≡ answered (pos n)
+  unfolding number only-if
   number-of-digits n h = rw (eq-eqb (length (digits b count n)) count (length-digits b count n), value-of-digits b count n p h)
 
-  pub numberHigh-of-digitsHigh : (n : ℕ) → n < b ^ count → numberHigh b count (digitsHigh b count n) ≡ fit.value (pos n)
+  pub numberHigh-of-digitsHigh : (n : ℕ) → n < b ^ count → numberHigh b count (digitsHigh b count n) ≡ answered (pos n)
   unfolding numberHigh
   numberHigh-of-digitsHigh n h = rw reverse-reverse (number-of-digits n h)
 
-  pub digits-of-number : (n : ℕ) (s : List ℕ) → AllBelow b s → fit.Answers true (pos n) (number b count s) → digits b count n ≡ s
-  unfolding number fit.only-if
+  pub digits-of-number : (n : ℕ) (s : List ℕ) → AllBelow b s → Answers true (pos n) (number b count s) → digits b count n ≡ s
+  unfolding number only-if
   digits-of-number n s h a =
       by-test (eqb (length s) count)
       (λ e. let f : (true ≡ true) × (pos n ≡ pos (value b s)) = (rw e at a) in
@@ -100,6 +97,6 @@ module _ (b count : ℕ) (p : 0 < b) where
       let none : ⊥ = omega arith in
       absurd none)
 
-  pub digitsHigh-of-numberHigh : (n : ℕ) (s : List ℕ) → AllBelow b s → fit.Answers true (pos n) (numberHigh b count s) → digitsHigh b count n ≡ s
+  pub digitsHigh-of-numberHigh : (n : ℕ) (s : List ℕ) → AllBelow b s → Answers true (pos n) (numberHigh b count s) → digitsHigh b count n ≡ s
   unfolding numberHigh
   digitsHigh-of-numberHigh n s h a = rw (digits-of-number n (reverse s) (below-reverse b s h) a) (reverse-reverse s)

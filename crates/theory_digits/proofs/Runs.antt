@@ -1,8 +1,7 @@
 -- The run at the front of a list: what stands in it, what ends it, and that no other number says as much.
-use mathlib.Core.Path.{_≡_, refl, sym}
-use mathlib.Core.List.{List, [], _∷_, _++_}
-use Prim.Native.Nat.{ℕ, zero, suc, _+_, _≤_, _<_, zero-le}
-use native.Mathlib.Nat.{zero-add}
+use mathlib.Core.Path.{_≡_, refl}
+use mathlib.Core.List.{List, [], _∷_}
+use Prim.Native.Nat.{ℕ, zero, suc, _≤_, _<_, zero-le}
 use native.Mathlib.Omega.{arith}
 use borrow.Author.Tests.{eq-eqb, ne-eqb, eqb-true, eqb-false}
 use lib.Dec.{eqb}
@@ -72,21 +71,3 @@ run-is d t xs within before ended =
     let less : t < run d xs → ⊥ = λ l. ended (omega (arith, run-within d xs)) (run-before d xs t l) in
     let more : run d xs < t → ⊥ = λ l. run-ended d xs (omega arith) (before (run d xs) l) in
     omega arith
-
--- ---- one after the other
-
-pub run-append-all : (d : ℕ) (xs ys : List ℕ) → run d xs ≡ length xs → run d (xs ++ ys) ≡ length xs + run d ys
-unfolding run
-run-append-all d [] ys e = sym (zero-add (run d ys))
-run-append-all d (x ∷ xs) ys e =
-    by-first (run d (x ∷ xs ++ ys) ≡ suc (length xs) + run d ys) x d
-    (λ y. let g = run-goes-on xs y in let ih = run-append-all d xs ys (omega arith) in omega (arith, run-goes-on (xs ++ ys) y))
-    (λ n. let g = run-stops xs n in let none : ⊥ = omega arith in absurd none)
-
-pub run-append-part : (d : ℕ) (xs ys : List ℕ) → run d xs < length xs → run d (xs ++ ys) ≡ run d xs
-unfolding run
-run-append-part d [] ys h = absurd (omega arith)
-run-append-part d (x ∷ xs) ys h =
-    by-first (run d (x ∷ xs ++ ys) ≡ run d (x ∷ xs)) x d
-    (λ y. let g = run-goes-on xs y in let ih = run-append-part d xs ys (omega arith) in omega (arith, run-goes-on (xs ++ ys) y))
-    (λ n. omega (arith, run-stops xs n, run-stops (xs ++ ys) n))

@@ -1,17 +1,12 @@
 -- Digits in the base b regrouped into digits in the base b ^ k, each of which stands for k of them, and back.
 use mathlib.Core.List.{List, [], _∷_, _++_, map, reverse}
-use Prim.Native.Nat.{ℕ, zero, suc}
-use lib.ListN.{take, drop}
+use Prim.Native.Nat.{ℕ}
+use Rattle.theory_lists.specs.Pieces.{first-pieces}
 use Rattle.theory_digits.specs.Digits.{digits, value}
-
--- the first m pieces of k elements each
-unfoldable pub pieces : ℕ → ℕ → List ℕ → List (List ℕ)
-pieces zero k ds = []
-pieces (suc m) k ds = take k ds ∷ pieces m k (drop k ds)
 
 -- m * k digits in the base b as m digits in the base b ^ k
 unfoldable pub larger : ℕ → ℕ → ℕ → List ℕ → List ℕ
-larger b m k ds = map (value b) (pieces m k ds)
+larger b m k ds = map (value b) (first-pieces m k ds)
 
 -- digits in the base b ^ k, each as k digits in the base b
 unfoldable pub smaller : ℕ → ℕ → List ℕ → List ℕ

@@ -1,6 +1,6 @@
 -- A number as its lowest digits in any base, and the number that digits stand for. Lists of digits have the lowest first; highest first is the reversal.
 use mathlib.Core.List.{List, [], _∷_, reverse}
-use Prim.Native.Nat.{ℕ, zero, suc, _+_, _*_, _/_, _%_, _^_, _<_}
+use Prim.Native.Nat.{ℕ, zero, suc, _+_, _*_, _/_, _%_, _^_}
 use lib.ListN.{length}
 
 -- the `count` lowest digits of n in the base b
@@ -11,11 +11,6 @@ digits b (suc count) n = n % b ∷ digits b count (n / b)
 unfoldable pub value : ℕ → List ℕ → ℕ
 value b [] = 0
 value b (d ∷ ds) = d + b * value b ds
-
--- each is a digit in the base b
-unfoldable pub AllBelow : ℕ → List ℕ → Type 0
-AllBelow b [] = Unit {0}
-AllBelow b (d ∷ ds) = (d < b) × AllBelow b ds
 
 -- `digits` and `value`, highest first
 abbrev pub digitsHigh : ℕ → ℕ → ℕ → List ℕ

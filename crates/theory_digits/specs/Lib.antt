@@ -2,4 +2,4 @@ pub mod Digits
 pub mod Bases
 pub mod Runs
 pub mod Powers
-pub mod Answers
+pub mod Number

@@ -1,6 +1,9 @@
-pub mod Says
+pub mod Between
 pub mod Part
+pub mod Below
+pub mod Listed
 pub mod Written
+pub mod Stored
 pub mod Tests
 pub mod Reverse
 pub mod Filled

@@ -1,12 +1,37 @@
--- Parts: by index, and one after another.
+-- Parts: their ends, by index, and one after another.
 use mathlib.Core.Path.{_≡_, sym, ap, _∙_}
+use mathlib.Core.Bool.{true, false, _&&_}
 use mathlib.Core.List.{List, [], _∷_, _++_}
 use Prim.Native.Nat.{ℕ, zero, suc, _+_, _-_, _≤_, _<_}
 use native.Mathlib.Nat.{sub-self, sub-zero, zero-sub, suc-sub-suc}
 use native.Mathlib.Omega.{arith}
+use lib.Dec.{leb}
 use lib.ListN.{length, getD, take, drop, length-drop}
 use lib.Seq.{length-take-le, getD-take, getD-drop, take-all, take-nil, take-take, take-add, drop-drop, drop-cons}
-use Rattle.theory_lists.specs.Part.{part, Within}
+use Rattle.theory_answers.specs.Says.{Says}
+use Rattle.theory_answers.proofs.Says.{true-where, false-where, says-alike}
+use Rattle.theory_answers.proofs.Tests.{says-at-most, says-both}
+use Rattle.theory_lists.specs.Part.{part, Within, isWithin, partOrNone}
+
+pub says-within : (f t : ℕ) (s : List ℕ) → Says (isWithin f t s) (Within f t s)
+unfolding isWithin
+says-within f t s =
+    says-alike (leb f t && leb t (length s)) (λ p. record { ordered = p .0; ends = p .1 }) (λ w. (w .ordered, w .ends))
+    (says-both (leb f t) (leb t (length s)) (f ≤ t) (t ≤ length s) (says-at-most f t) (says-at-most t (length s)))
+
+pub is-within : {f t : ℕ} {s : List ℕ} → Within f t s → isWithin f t s ≡ true
+is-within {f} {t} {s} w = true-where (isWithin f t s) (says-within f t s) w
+
+pub not-within : {f t : ℕ} {s : List ℕ} → (Within f t s → ⊥) → isWithin f t s ≡ false
+not-within {f} {t} {s} n = false-where (isWithin f t s) (says-within f t s) n
+
+pub part-or-none : {f t : ℕ} {s : List ℕ} → Within f t s → partOrNone f t s ≡ part f t s
+unfolding partOrNone
+part-or-none w = rw (is-within w)
+
+pub none-of-part : {f t : ℕ} {s : List ℕ} → (Within f t s → ⊥) → partOrNone f t s ≡ []
+unfolding partOrNone
+none-of-part n = rw (not-within n)
 
 pub length-part : {f t : ℕ} {s : List ℕ} → Within f t s → length (part f t s) ≡ t - f
 length-part {f} {t} {s} w = length-take-le (t - f) (drop f s) (omega (arith, length-drop f s))

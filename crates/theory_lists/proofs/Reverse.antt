@@ -8,8 +8,8 @@ use lib.ListN.{length, getD, length-append, length-reverse, List·getD-append}
 use lib.Seq.{getD-at}
 use Rattle.theory_lists.specs.Part.{part, Within}
 use Rattle.theory_lists.specs.Written.{written}
-use Rattle.theory_lists.proofs.Part.{length-part, part-append, part-whole}
-use Rattle.theory_lists.proofs.Written.{length-written, written-all, written-same, written-twice-up, written-twice-down, part-after-written, part-before-written}
+use Rattle.theory_lists.proofs.Part.{length-part, part-append}
+use Rattle.theory_lists.proofs.Written.{length-written, written-same, written-twice-up, written-twice-down, part-after-written, part-before-written}
 
 pub getD-reverse : (s : List ℕ) (k : ℕ) → k < length s → getD (reverse s) k 0 ≡ getD s (length s - 1 - k) 0
 getD-reverse [] k h = absurd (omega arith)
@@ -67,10 +67,6 @@ module _ (f t n : ℕ) (s : List ℕ) (room : f + n + n ≤ t) (ends : t ≤ len
   once : length (written s f (reverse back)) ≡ length s
   once = length-written s f (reverse back) (omega (arith, length-back))
 
-  pub length-exchanged : length (exchanged f t n s) ≡ length s
-  unfolding exchanged
-  length-exchanged = length-written (written s f (reverse back)) (t - n) (reverse front) (omega (arith, length-front, once)) ∙ once
-
   middle-stays : part (f + n) (t - n) (exchanged f t n s) ≡ middle
   unfolding exchanged
   middle-stays =
@@ -95,8 +91,3 @@ module _ (f t n : ℕ) (s : List ℕ) (room : f + n + n ≤ t) (ends : t ≤ len
       ∙ written-twice-up s f (reverse back) (reverse middle ++ reverse front)
       (omega (arith, length-append (reverse middle) (reverse front), length-front, length-back, length-middle))
       ∙ ap (written s f) turned-whole
-
--- all of it
-pub reversed-whole : (s : List ℕ) → reversed 0 (length s) s ≡ reverse s
-unfolding reversed
-reversed-whole s = rw (part-whole s) (written-all s (reverse s) (length-reverse s))

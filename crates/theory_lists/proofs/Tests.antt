@@ -1,46 +1,20 @@
 -- Tests from the front, an element or a block at a time: what is known of the front, with the next, is known of the longer front.
-use mathlib.Core.Path.{_≡_, refl, sym, ap, _∙_}
-use mathlib.Core.Bool.{Bool, true, false, _&&_, _||_}
+use mathlib.Core.Path.{_≡_, sym, ap, _∙_}
+use mathlib.Core.Bool.{Bool, _&&_, _||_}
 use mathlib.Core.List.{List}
 use mathlib.Core.Logic.{_⊎_, inl, inr, ⊎-elim}
 use Prim.Native.Nat.{ℕ, _+_, _-_, _≤_, _<_}
 use native.Mathlib.Decide.{decLt}
 use native.Mathlib.Numerals.{add-one}
 use native.Mathlib.Omega.{arith}
-use lib.Dec.{eqb, ltb}
+use lib.Dec.{eqb}
 use lib.ListN.{length, getD, take, drop, length-take, length-drop, take-append-drop}
 use lib.Seq.{take-suc, take-take, take-all, take-add, getD-take}
-use borrow.Author.Tests.{eqb-true, eqb-false, ltb-true, ltb-false}
-use Rattle.theory_lists.specs.Says.{Says}
+use Rattle.theory_answers.specs.Says.{Says}
 use Rattle.theory_lists.specs.Part.{part, Within, Has}
-use Rattle.theory_lists.proofs.Says.{says-alike}
+use Rattle.theory_answers.proofs.Tests.{says-equal, says-both, says-either}
+use Rattle.theory_answers.proofs.Says.{says-alike}
 use Rattle.theory_lists.proofs.Part.{length-part, getD-part, part-rest, take-part, drop-part}
-
--- ---- joined answers
-
-pub says-equal : (x y : ℕ) → Says (eqb x y) (x ≡ y)
-says-equal x y = go (eqb x y) refl
-  where
-    go : (t : Bool) → eqb x y ≡ t → Says t (x ≡ y)
-    go true e = eqb-true x y e
-    go false e = eqb-false x y e
-
-pub says-less : (x y : ℕ) → Says (ltb x y) (x < y)
-says-less x y = go (ltb x y) refl
-  where
-    go : (t : Bool) → ltb x y ≡ t → Says t (x < y)
-    go true e = ltb-true x y e
-    go false e = let l = ltb-false x y e in λ h. omega arith
-
-pub says-both : (b c : Bool) (P Q : Type 0) → Says b P → Says c Q → Says (b && c) (P × Q)
-says-both true true P Q p q = (p, q)
-says-both true false P Q p n = λ pq. n (pq .1)
-says-both false c P Q n q = λ pq. n (pq .0)
-
-pub says-either : (b c : Bool) (P Q : Type 0) → Says b P → Says c Q → Says (b || c) (P ⊎ Q)
-says-either true c P Q p q = inl p
-says-either false true P Q n q = inr q
-says-either false false P Q n m = λ pq. ⊎-elim n m pq
 
 pub says-empty : {f t : ℕ} {s : List ℕ} → Within f t s → Says (eqb f t) (length (part f t s) ≡ 0)
 says-empty {f} {t} {s} w =
@@ -125,12 +99,6 @@ module _ (v : ℕ) (s : List ℕ) where
         inside = omega (arith, length-take i s);
         stands = getD-take i s (m .place) 0 (omega arith) ∙ sym (getD-take j s (m .place) 0 l) ∙ m .stands;
       })
-
-  front-has : (i : ℕ) → Has v (take i s) → Has v s
-  front-has i m =
-      let l : length (take i s) ≤ i = omega (arith, length-take i s) in
-      let n : length (take i s) ≤ length s = omega (arith, length-take i s) in
-      record { place = m .place; inside = omega (arith, m .inside); stands = sym (getD-take i s (m .place) 0 (omega (arith, m .inside))) ∙ m .stands }
 
   pub has-rest : (ok : Bool) (i : ℕ) → i ≤ length s → (Has v (take i s) → ⊥) → Says ok (Has v (part i (length s) s)) → Says ok (Has v s)
   has-rest ok i h n =

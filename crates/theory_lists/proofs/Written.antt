@@ -1,13 +1,15 @@
 -- Laws of `written`: by index, which is all that there is to know of it; by stores; and by a part that was lent.
 use mathlib.Core.Path.{_≡_, refl, sym, ap, ap₂, _∙_}
-use mathlib.Core.List.{List, [], _∷_, _++_, append-nil, append-assoc}
+use mathlib.Core.Bool.{Bool}
+use mathlib.Core.List.{List, [], _∷_, _++_, append-assoc}
 use Prim.Native.Nat.{ℕ, suc, _+_, _-_, _≤_, _<_}
 use native.Mathlib.Decide.{decLt}
 use native.Mathlib.Omega.{arith}
 use lib.ListN.{length, getD, set, take, drop, length-append, length-take, length-drop, take-append-drop, List·getD-append}
-use lib.Seq.{length-take-le, getD-take, getD-drop, getD-append-add, take-at, drop-at, drop-drop, take-take, take-append-le, drop-append-le, drop-append-add, drop-length, set-split, ext-getD}
+use lib.Seq.{length-take-le, getD-take, getD-drop, getD-append-add, take-at, drop-at, drop-drop, take-take, take-append-le, drop-append-le, drop-append-add, set-split, ext-getD}
+use Rattle.theory_answers.proofs.Says.{outcome-pinned}
 use Rattle.theory_lists.specs.Part.{part, Within}
-use Rattle.theory_lists.specs.Written.{written}
+use Rattle.theory_lists.specs.Written.{written, Writes}
 use Rattle.theory_lists.proofs.Part.{length-part, drop-take}
 
 module _ (s : List ℕ) (at : ℕ) (new : List ℕ) (fits : at + length new ≤ length s) where
@@ -67,14 +69,10 @@ module _ (s : List ℕ) (at : ℕ) (new : List ℕ) (fits : at + length new ≤ 
       ∙ ap (λ (k : ℕ). take k (new ++ drop (length new) (drop at s))) n
       ∙ take-at new (drop (length new) (drop at s)) (length new) refl
 
--- nothing is written, and all is
+-- nothing is written
 pub written-none : (s : List ℕ) (at : ℕ) → written s at [] ≡ s
 unfolding written
 written-none s at = take-append-drop at s
-
-pub written-all : (s new : List ℕ) → length new ≡ length s → written s 0 new ≡ new
-unfolding written
-written-all s new e = rw e (ap (λ (r : List ℕ). new ++ r) (drop-length s) ∙ append-nil new)
 
 -- one store
 pub written-one : (s : List ℕ) (at : ℕ) (a : ℕ) → at < length s → set s at a ≡ written s at (a ∷ [])
@@ -144,3 +142,8 @@ module _ (s : List ℕ) (at : ℕ) (new : List ℕ) (fits : at + length new ≤ 
       let m : t - f ≤ length (drop f (take at s)) = omega (arith, length-drop f (take at s)) in
       rw (drop-append-le f (take at s) (new ++ drop (length new) (drop at s)) (omega arith), take-append-le (t - f) (drop f (take at s)) (new ++ drop (length new) (drop at s)) m, drop-take f at s)
       (take-take (t - f) (at - f) (drop f s) (omega arith))
+
+-- two writers of the same elements, at the same place of the same list, answer alike and leave the same
+pub pinned-writes : {ok ok′ : Bool} (before : List ℕ) (at : ℕ) (new : List ℕ) {after after′ : List ℕ}
+    → Writes ok before at new after → Writes ok′ before at new after′ → (ok ≡ ok′) × (after ≡ after′)
+pinned-writes before at new w w′ = outcome-pinned w w′ (λ e e′. e ∙ sym e′) (λ e e′. e ∙ sym e′)

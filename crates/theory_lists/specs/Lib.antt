@@ -1,4 +1,4 @@
-pub mod Says
+pub mod Bounds
 pub mod Part
 pub mod Written
 pub mod Pieces

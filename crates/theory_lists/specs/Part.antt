@@ -1,7 +1,9 @@
 -- A part of a list, by the place where it begins and the place where it ends.
 use mathlib.Core.Path.{_≡_}
+use mathlib.Core.Bool.{Bool, _&&_, cond}
 use mathlib.Core.List.{List, []}
 use Prim.Native.Nat.{ℕ, _-_, _≤_, _<_}
+use lib.Dec.{leb}
 use lib.ListN.{length, getD, take, drop}
 
 -- the elements of s from place f up to and without place t
@@ -13,10 +15,13 @@ pub record Within (f t : ℕ) (s : List ℕ) : Type 0 where
   pub ordered : f ≤ t
   pub ends : t ≤ length s
 
--- r is that part, or no elements where there is none
-pub record PartOrNone (f t : ℕ) (s r : List ℕ) : Type 0 where
-  pub inside : Within f t s → r ≡ part f t s
-  pub outside : (Within f t s → ⊥) → r ≡ []
+-- the test of it
+unfoldable pub isWithin : ℕ → ℕ → List ℕ → Bool
+isWithin f t s = leb f t && leb t (length s)
+
+-- that part, or no elements where there is none
+unfoldable pub partOrNone : ℕ → ℕ → List ℕ → List ℕ
+partOrNone f t s = cond (isWithin f t s) (part f t s) []
 
 -- a place of s at which v stands
 pub record Has (v : ℕ) (s : List ℕ) : Type 0 where

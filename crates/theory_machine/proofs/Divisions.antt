@@ -14,12 +14,15 @@ use mir.Val.{bits, hbits, SFits, toZ, ofZ}
 use mir.Facts.{toZ-ofZ}
 use borrow.Author.Tests.{ne-eqb, eqb-true, eqb-false}
 use Rattle.theory_whole.specs.Kind.{signed}
-use Rattle.theory_whole.specs.Division.{isZero, ediv, emod}
-use Rattle.theory_whole.specs.Fit.{fits, divided, Answers}
+use Rattle.theory_whole.specs.Division.{ediv, emod}
+use Rattle.theory_whole.specs.Order.{eqZ}
+use Rattle.theory_answers.specs.Answer.{Answers}
+use Rattle.theory_whole.specs.Fit.{fits, divided}
 use Rattle.theory_whole.proofs.Cases.{by-test, never, both-are}
 use Rattle.theory_whole.proofs.Halves.{down}
 use Rattle.theory_whole.proofs.Fits.{In, real-signed, in-fits, out-not-fits, fits-in}
-use Rattle.theory_whole.proofs.Refuse.{answer, refusal, divided-so, divided-not, divided-by-zero}
+use Rattle.theory_answers.proofs.Answer.{answer, refusal}
+use Rattle.theory_whole.proofs.Refuse.{divided-so, divided-not, divided-by-zero}
 use Rattle.theory_whole.proofs.Divisions.{agree, one-more, one-less}
 use Rattle.theory_whole.proofs.Quotients.{quotients-in, minus-one-in, least-by-minus-one, quotients-alike, remainder-in}
 use Rattle.theory_machine.proofs.Bits.{some-bits, half, halves, in-signed, signed-fits}
@@ -40,7 +43,7 @@ ones-bits w {b} g e = to b g e
     to (pos n) g e = let none : ⊥ = omega (arith, halves w, g .sfits) in absurd none
     to (negsuc n) g e = let z : n ≡ 0 = omega (arith, halves w, g .sfits) in ap negsuc z
 
-pub not-zero-bits : (w : Width) (b : ℤ) → (ofZ w b ≡ 0 → ⊥) → isZero b ≡ false
+pub not-zero-bits : (w : Width) (b : ℤ) → (ofZ w b ≡ 0 → ⊥) → eqZ b (pos 0) ≡ false
 not-zero-bits w (pos b) n = ne-eqb b 0 n
 not-zero-bits w (negsuc b) n = refl
 
@@ -61,7 +64,7 @@ not-least-bits w {a} f n e = to a f n e
 
 module _ (w : Width) {a b : ℤ} (f : SFits w a) (g : SFits w b) where
   abbrev Valued : Bool
-  Valued = not (isZero b) && fits (signed (bits w)) (quotZ a b)
+  Valued = not (eqZ b (pos 0)) && fits (signed (bits w)) (quotZ a b)
 
   pub valued-by-zero : ofZ w b ≡ 0 → false ≡ Valued
   valued-by-zero e = rw (zero-bits w g e)
@@ -83,17 +86,17 @@ module _ (w : Width) {a b : ℤ} (f : SFits w a) (g : SFits w b) where
 pub record Divisible (w : Width) (a b : ℤ) : Type 0 where
   pub dividend : SFits w a
   pub divisor : SFits w b
-  pub not-zero : isZero b ≡ false
+  pub not-zero : eqZ b (pos 0) ≡ false
   pub quotient : In (signed (bits w)) (quotZ a b)
 
-module _ (w : Width) {a b : ℤ} (f : SFits w a) (g : SFits w b) {t : Bool} (e : t ≡ not (isZero (toZ w (ofZ w b))) && fits (signed (bits w)) (quotZ (toZ w (ofZ w a)) (toZ w (ofZ w b)))) where
-  tested : t ≡ not (isZero b) && fits (signed (bits w)) (quotZ a b)
+module _ (w : Width) {a b : ℤ} (f : SFits w a) (g : SFits w b) {t : Bool} (e : t ≡ not (eqZ (toZ w (ofZ w b)) (pos 0)) && fits (signed (bits w)) (quotZ (toZ w (ofZ w a)) (toZ w (ofZ w b)))) where
+  tested : t ≡ not (eqZ b (pos 0)) && fits (signed (bits w)) (quotZ a b)
   tested = rw (toZ-ofZ f, toZ-ofZ g) at e
 
   pub divisible : t ≡ true → Divisible w a b
   divisible y =
-      let p = both-are (not (isZero b)) (fits (signed (bits w)) (quotZ a b)) (sym tested ∙ y) in
-      record { dividend = f; divisor = g; not-zero = negated (isZero b) (p .0); quotient = fits-in (real-signed (bits w)) (quotZ a b) (p .1) }
+      let p = both-are (not (eqZ b (pos 0))) (fits (signed (bits w)) (quotZ a b)) (sym tested ∙ y) in
+      record { dividend = f; divisor = g; not-zero = negated (eqZ b (pos 0)) (p .0); quotient = fits-in (real-signed (bits w)) (quotZ a b) (p .1) }
     where
       negated : (s : Bool) → not s ≡ true → s ≡ false
       negated true q = never q refl
@@ -103,9 +106,9 @@ module _ (w : Width) {a b : ℤ} (f : SFits w a) (g : SFits w b) {t : Bool} (e :
     refused-with : Answers false (pos 0) (divided (signed (bits w)) b q v)
     refused-with =
         refusal (divided (signed (bits w)) b q v)
-        (by-test (isZero b)
+        (by-test (eqZ b (pos 0))
         (λ z. divided-by-zero (signed (bits w)) b q v z)
-        (λ z. divided-not (signed (bits w)) b q v (alike ∙ not-and (isZero b) z (sym tested ∙ n))))
+        (λ z. divided-not (signed (bits w)) b q v (alike ∙ not-and (eqZ b (pos 0)) z (sym tested ∙ n))))
       where
         not-and : (s : Bool) → s ≡ false → not s && fits (signed (bits w)) (quotZ a b) ≡ false → fits (signed (bits w)) (quotZ a b) ≡ false
         not-and s z q = rw z at q
@@ -153,7 +156,7 @@ module _ (w : Width) {a b : ℤ} (d : Divisible w a b) where
   some : 0 < natAbs b
   some = to b (d .not-zero)
     where
-      to : (b : ℤ) → isZero b ≡ false → 0 < natAbs b
+      to : (b : ℤ) → eqZ b (pos 0) ≡ false → 0 < natAbs b
       to (pos zero) e = never refl e
       to (pos (suc b)) e = omega arith
       to (negsuc b) e = omega arith

@@ -1,15 +1,16 @@
 -- Signed numbers that code takes to 64 bits and back: what is widened keeps its value, and what is narrowed is tested once.
 use mathlib.Core.Path.{_≡_, _∙_}
-use mathlib.Core.Bool.{Bool, true, false}
+use mathlib.Core.Bool.{true, false}
 use Prim.Native.Nat.{ℕ, _+_, _/_, _^_, _≤_, _<_}
 use native.Mathlib.Omega.{arith}
 use lib.Pow.{pow-mono}
 use lib.IntN.{ℤ, pos, _+ℤ_, _-ℤ_, +ℤ-comm}
 use mir.Syntax.{Width, w64}
-use mir.Val.{bits, hbits, SFits, toZ, ofZ}
+use mir.Val.{bits, SFits, toZ, ofZ}
 use mir.Facts.{toZ-ofZ}
 use Rattle.theory_whole.specs.Kind.{signed, unsigned}
-use Rattle.theory_whole.specs.Fit.{wrap, refuse, Answers}
+use Rattle.theory_answers.specs.Answer.{Answers}
+use Rattle.theory_whole.specs.Fit.{wrap, refuse}
 use Rattle.theory_whole.proofs.Halves.{up, down, sum, difference}
 use Rattle.theory_whole.proofs.Fits.{In, real-signed}
 use Rattle.theory_whole.proofs.Refuse.{accepts, refuses}

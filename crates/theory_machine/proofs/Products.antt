@@ -11,8 +11,9 @@ use mir.Syntax.{Width}
 use mir.Val.{bits, hbits, SFits, toZ, ofZ}
 use mir.Facts.{toZ-ofZ, toZ-pos}
 use Rattle.theory_whole.specs.Kind.{Kind, unsigned, signed}
-use Rattle.theory_whole.specs.Division.{isZero}
-use Rattle.theory_whole.specs.Fit.{fits, wrap, refuse, Answers}
+use Rattle.theory_whole.specs.Order.{eqZ}
+use Rattle.theory_answers.specs.Answer.{Answers}
+use Rattle.theory_whole.specs.Fit.{fits, wrap, refuse}
 use Rattle.theory_whole.proofs.Cases.{never}
 use Rattle.theory_whole.proofs.Halves.{up-neg, down-neg}
 use Rattle.theory_whole.proofs.Fits.{In, under, over, real-unsigned, real-signed, in-fits}
@@ -62,7 +63,7 @@ zero-product : (a b : ℤ) → a ≡ pos 0 → a *ℤ b ≡ pos 0
 zero-product a (pos b) e = rw (e, zero-mul)
 zero-product a (negsuc b) e = rw (e, zero-mul)
 
-not-zero-magnitude : (a : ℤ) → isZero a ≡ false → 0 < natAbs a
+not-zero-magnitude : (a : ℤ) → eqZ a (pos 0) ≡ false → 0 < natAbs a
 not-zero-magnitude (pos zero) e = never refl e
 not-zero-magnitude (pos (suc a)) e = omega arith
 not-zero-magnitude (negsuc a) e = omega arith
@@ -87,7 +88,7 @@ module _ (w : Width) {a b : ℤ} (f : SFits w a) (g : SFits w b) where
     quotient-read : {q : ℤ} → SFits w q → ofZ w q ≡ ofZ w b → q ≡ b
     quotient-read {q} h s = sym (toZ-ofZ h) ∙ ap (toZ w) s ∙ toZ-ofZ g
 
-    module _ {t : Bool} (d : t ≡ not (isZero (toZ w (ofZ w a))) && fits (signed (bits w)) (quotZ (toZ w (ofZ w p)) (toZ w (ofZ w a)))) where
+    module _ {t : Bool} (d : t ≡ not (eqZ (toZ w (ofZ w a)) (pos 0)) && fits (signed (bits w)) (quotZ (toZ w (ofZ w p)) (toZ w (ofZ w a)))) where
       pub divides-again : t ≡ true → Divisible w p a
       divides-again = divisible w product-fits f d
 
@@ -97,7 +98,7 @@ module _ (w : Width) {a b : ℤ} (f : SFits w a) (g : SFits w b) where
           no-quotient : quotZ p a ≡ b → ⊥
           no-quotient q =
               let fit : fits (signed (bits w)) (quotZ p a) ≡ true = rw q (in-fits (real-signed (bits w)) b (in-signed w g)) in
-              let d′ : t ≡ not (isZero a) && fits (signed (bits w)) (quotZ p a) = (rw (toZ-ofZ product-fits, toZ-ofZ f) at d) in
+              let d′ : t ≡ not (eqZ a (pos 0)) && fits (signed (bits w)) (quotZ p a) = (rw (toZ-ofZ product-fits, toZ-ofZ f) at d) in
               never (d′ ∙ rw (not-zero-bits w a some, fit)) n
 
     module _ (v : Divisible w p a) where

@@ -11,7 +11,8 @@ use mir.Syntax.{Width}
 use mir.Val.{bits, hbits, SFits, toZ, ofZ}
 use mir.Facts.{toZ-ofZ}
 use Rattle.theory_whole.specs.Kind.{Kind, unsigned, signed}
-use Rattle.theory_whole.specs.Fit.{wrap, refuse, Answers}
+use Rattle.theory_answers.specs.Answer.{Answers}
+use Rattle.theory_whole.specs.Fit.{wrap, refuse}
 use Rattle.theory_whole.proofs.Halves.{up, down, sum, difference}
 use Rattle.theory_whole.proofs.Alike.{Alike, alike-itself, alike-add}
 use Rattle.theory_whole.proofs.Fits.{real-unsigned, real-signed}

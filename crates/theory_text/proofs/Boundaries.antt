@@ -12,8 +12,8 @@ use Rattle.theory_whole.proofs.Cases.{by-test}
 use Rattle.theory_text.specs.Scalar.{len}
 use Rattle.theory_text.specs.Text.{Scalars, encode, Valid}
 use Rattle.theory_text.specs.Table.{first}
-use Rattle.theory_text.specs.Reading.{value, scalars}
-use Rattle.theory_text.specs.ByValue.{follows}
+use Rattle.theory_text.specs.Reading.{decoded, scalars}
+use Rattle.theory_text.specs.Scalar.{follows}
 use Rattle.theory_text.specs.Boundary.{place, Boundary, Splits, starts}
 use Rattle.theory_text.proofs.Steps.{rest-step, scalars-step, first-len}
 use Rattle.theory_text.proofs.Unique.{scalars-are, valid-encode, encode-valid, valid-rest, rest-valid}
@@ -92,7 +92,7 @@ module _ (s : List ℕ) (v : Valid s) where
       go (suc n) e =
           by-test (ltb 0 (first s))
           (λ t. let q = ltb-true 0 (first s) t in
-          let c = value (first s) s in
+          let c = decoded (first s) s in
           let cs = scalars (drop (first s) s) in
           omega (arith, ap (λ (l : List ℕ). place l (suc n)) (scalars-step s q), place-next c cs n, first-len s q))
           (λ t. let q = ltb-false 0 (first s) t in omega arith)
@@ -104,7 +104,7 @@ module _ (s : List ℕ) (q : 0 < first s) where
 
   pub boundary-behind-scalar : (i : ℕ) → Boundary (drop (first s) s) i → Boundary s (first s + i)
   boundary-behind-scalar i b =
-      let c = value (first s) s in
+      let c = decoded (first s) s in
       let cs = scalars (drop (first s) s) in
       let e = scalars-step s q in (
         suc (b .0),
@@ -118,7 +118,7 @@ module _ (s : List ℕ) (q : 0 < first s) where
       go : (n : ℕ) → n ≤ length (scalars s) → at ≡ place (scalars s) n → Boundary (drop (first s) s) (at - first s)
       go zero l e = absurd (omega arith)
       go (suc n) l e =
-          let c = value (first s) s in
+          let c = decoded (first s) s in
           let cs = scalars (drop (first s) s) in
           let f = scalars-step s q in
           (n, omega (arith, ap length f), omega (arith, e, ap (λ (l : List ℕ). place l (suc n)) f, place-next c cs n, first-len s q))

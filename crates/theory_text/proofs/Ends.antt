@@ -11,22 +11,22 @@ use Rattle.theory_whole.proofs.Cases.{by-test}
 use Rattle.theory_text.specs.Scalar.{len, form}
 use Rattle.theory_text.specs.Text.{Scalars, encode, Begins, Ends}
 use Rattle.theory_text.specs.Table.{first}
-use Rattle.theory_text.specs.Reading.{value}
+use Rattle.theory_text.specs.Reading.{decoded}
 use Rattle.theory_text.specs.Boundary.{Back}
 use Rattle.theory_text.proofs.Sizes.{Sized, in-one, in-two, in-three, in-four, sized, form-as, len-some, len-most, length-form}
 use Rattle.theory_text.proofs.Steps.{first-scalar, first-len, first-form, form-first, form-value}
 use Rattle.theory_text.proofs.Places.{Follows, inner-follows, first-not-follows}
 
 -- ---- the front
-pub first-begins : (s : List ℕ) → 0 < first s → Begins (value (first s) s) s
+pub first-begins : (s : List ℕ) → 0 < first s → Begins (decoded (first s) s) s
 first-begins s p = (first-scalar s p, (drop (first s) s, first-form s p))
 
 module _ (s : List ℕ) (c : ℕ) (b : Begins c s) where
   pub begins-first : first s ≡ len c
   begins-first = ap first (sym (b .1 .1)) ∙ form-first c (b .0) (b .1 .0)
 
-  pub begins-value : value (first s) s ≡ c
-  begins-value = rw begins-first (ap (value (len c)) (sym (b .1 .1)) ∙ form-value c (b .0) (b .1 .0))
+  pub begins-value : decoded (first s) s ≡ c
+  begins-value = rw begins-first (ap (decoded (len c)) (sym (b .1 .1)) ∙ form-value c (b .0) (b .1 .0))
 
 pub begins-unique : (s : List ℕ) (c d : ℕ) → Begins c s → Begins d s → c ≡ d
 begins-unique s c d b e = sym (begins-value s c b) ∙ begins-value s d e
@@ -76,14 +76,14 @@ module _ (s : List ℕ) (c : ℕ) (e : Ends c s) where
   ends-first = rw ends-form (ap first (sym (append-nil (form c))) ∙ form-first c (e .0) [])
 
 -- what stands behind the place, if it is one form, is the end
-pub read-ends : (s : List ℕ) (k : ℕ) → 0 < k → k ≤ length s → first (drop (length s - k) s) ≡ k → Ends (value k (drop (length s - k) s)) s × (len (value k (drop (length s - k) s)) ≡ k)
+pub read-ends : (s : List ℕ) (k : ℕ) → 0 < k → k ≤ length s → first (drop (length s - k) s) ≡ k → Ends (decoded k (drop (length s - k) s)) s × (len (decoded k (drop (length s - k) s)) ≡ k)
 read-ends s k p h e =
     let d = drop (length s - k) s in
     let q : 0 < first d = rw e p in
     let m : length s - (length s - k) ≡ k = omega arith in
     let n : length d ≤ first d = omega (arith, length-drop (length s - k) s) in
-    let f : form (value (first d) d) ≡ d = sym (append-nil _) ∙ ap (λ (l : List ℕ). form (value (first d) d) ++ l) (sym (drop-of-length-le d n)) ∙ first-form d q in
-    let g : Ends (value (first d) d) s = (first-scalar d q, (take (length s - k) s, ap (λ (l : List ℕ). take (length s - k) s ++ l) f ∙ take-append-drop (length s - k) s)) in
+    let f : form (decoded (first d) d) ≡ d = sym (append-nil _) ∙ ap (λ (l : List ℕ). form (decoded (first d) d) ++ l) (sym (drop-of-length-le d n)) ∙ first-form d q in
+    let g : Ends (decoded (first d) d) s = (first-scalar d q, (take (length s - k) s, ap (λ (l : List ℕ). take (length s - k) s ++ l) f ∙ take-append-drop (length s - k) s)) in
     (rw e at g, rw e at (first-len d q))
 
 -- ---- text that is not empty ends with its last scalar
@@ -95,11 +95,14 @@ valid-ends (b ∷ c ∷ cs) s p =
     let e = r .1 .1 .1 in
     (r .0, (b ∷ r .1 .0, (ap (λ (l : List ℕ). b ∷ l) (r .1 .1 .0), (e .0, (form b ++ e .1 .0, append-assoc (form b) (e .1 .0) (form (r .0)) ∙ ap (λ (l : List ℕ). form b ++ l) (e .1 .1))))))
 
-pub ends-unique : (s : List ℕ) (k : ℕ) → Back s k → (c d : ℕ) → Ends c s → Ends d s → c ≡ d
-ends-unique s k b c d e f =
-    let g : drop (length s - k) s ≡ form c = rw (back-ends s c e k b) (ends-form s c e) in
-    let h : drop (length s - k) s ≡ form d = rw (back-ends s d f k b) (ends-form s d f) in
-    begins-unique (form c) c d (e .0, ([], append-nil (form c))) (f .0, ([], append-nil (form d) ∙ sym h ∙ g))
+-- a shorter form would begin inside the longer one
+pub ends-unique : (s : List ℕ) (c d : ℕ) → Ends c s → Ends d s → c ≡ d
+ends-unique s c d e f =
+    let not-less : len c < len d → ⊥ = λ h. ahead-not-follows s c e (behind-follows s d f (len c) (len-some c) h) in
+    let not-more : len d < len c → ⊥ = λ h. ahead-not-follows s d f (behind-follows s c e (len d) (len-some d) h) in
+    let same : len c ≡ len d = omega arith in
+    let g : form c ≡ form d = sym (ends-form s c e) ∙ rw same (ends-form s d f) in
+    begins-unique (form c) c d (e .0, ([], append-nil (form c))) (f .0, ([], append-nil (form d) ∙ sym g))
 
 -- a last byte that is no 10xxxxxx is ASCII
 pub last-ascii : (s : List ℕ) (c : ℕ) → Ends c s → (Follows (getD s (length s - 1) 0) → ⊥) → getD s (length s - 1) 0 < 0x80

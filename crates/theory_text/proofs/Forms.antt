@@ -7,7 +7,7 @@ use lib.Arith.{digits-div, digits-mod}
 use lib.ListN.{length, drop}
 use Rattle.theory_text.specs.Scalar.{Scalar, formed}
 use Rattle.theory_text.specs.Table.{Range, _to_, After, more, wrong, after, matches, followed, first}
-use Rattle.theory_text.specs.Reading.{value}
+use Rattle.theory_text.specs.Reading.{decoded}
 use Rattle.theory_text.proofs.Tests.{by-cond}
 use Rattle.theory_text.proofs.Sizes.{Sized, in-one, in-two, in-three, in-four}
 use Rattle.theory_text.proofs.Rows.{any, Row, row-00, row-c2, row-e0, row-e1, row-ed, row-ee, row-f0, row-f1, row-f4, row, row-is}
@@ -18,9 +18,9 @@ use borrow.Author.Tests.{ltb-true, ltb-false}
 
 -- the first n bytes of bs are the form of their value
 pub record Reads (n : ℕ) (bs : List ℕ) : Type 0 where
-  pub scalar : Scalar (value n bs)
-  pub size : Sized (value n bs) n
-  pub whole : formed n (value n bs) ++ drop n bs ≡ bs
+  pub scalar : Scalar (decoded n bs)
+  pub size : Sized (decoded n bs) n
+  pub whole : formed n (decoded n bs) ++ drop n bs ≡ bs
 
 -- ---- the form of digits is the digits behind their marks
 formed-two : (x y : ℕ) → y < 64 → formed 2 (x * 64 + y) ≡ (0xc0 + x) ∷ (0x80 + y) ∷ []
@@ -142,7 +142,7 @@ written-first {c} (in-four l) s r =
 unmarked : (k m d : ℕ) → d < m → (k * m + d) % m ≡ d
 unmarked k m d h = digits-mod k h
 
-pub written-value : {c n : ℕ} → Sized c n → Scalar c → (r : List ℕ) → value n (formed n c ++ r) ≡ c
+pub written-value : {c n : ℕ} → Sized c n → Scalar c → (r : List ℕ) → decoded n (formed n c ++ r) ≡ c
 written-value (in-one h) s r = refl
 written-value {c} (in-two l h) s r = omega arith
 written-value {c} (in-three l h) s r =

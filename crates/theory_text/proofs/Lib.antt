@@ -10,10 +10,10 @@ pub mod Places
 pub mod Boundaries
 pub mod Ends
 pub mod Ascii
+pub mod OneSequence
 pub mod Counts
-pub mod ByValue
+pub mod ByteRanges
 pub mod Padded
 pub mod WhiteSpace
-pub mod Written
-pub mod Answers
+pub mod ReadIs
 pub mod Automaton

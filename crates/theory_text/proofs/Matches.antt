@@ -4,8 +4,9 @@ use mathlib.Core.Bool.{true}
 use mathlib.Core.List.{List, [], _∷_}
 use Prim.Native.Nat.{ℕ, _≤_}
 use Rattle.theory_whole.proofs.Cases.{never, both, both-are}
-use Rattle.theory_text.specs.Table.{Range, has, matches}
-use Rattle.theory_text.proofs.Tests.{has-in, in-has}
+use Rattle.theory_lists.specs.Bounds.{between}
+use Rattle.theory_lists.proofs.Between.{is-between, bounds-of}
+use Rattle.theory_text.specs.Table.{Range, matches}
 
 abbrev pub Matched : List Range → List ℕ → Type 0
 Matched [] bs = Unit {0}
@@ -16,13 +17,13 @@ pub matched : (rs : List Range) (bs : List ℕ) → matches rs bs ≡ true → M
 matched [] bs e = tt
 matched (r ∷ rs) [] e = never e refl
 matched (r ∷ rs) (b ∷ bs) e =
-    let p = both-are (has r b) (matches rs bs) e in
-    (in-has (r .low) (r .high) b (p .0), matched rs bs (p .1))
+    let p = both-are (between (r .low) (r .high) b) (matches rs bs) e in
+    (bounds-of (r .low) (r .high) b (p .0), matched rs bs (p .1))
 
 pub matches-so : (rs : List Range) (bs : List ℕ) → Matched rs bs → matches rs bs ≡ true
 matches-so [] bs m = refl
 matches-so (r ∷ rs) [] m = absurd m
-matches-so (r ∷ rs) (b ∷ bs) m = both (has-in (r .low) (r .high) b (m .0 .0) (m .0 .1)) (matches-so rs bs (m .1))
+matches-so (r ∷ rs) (b ∷ bs) m = both (is-between (r .low) (r .high) b (m .0 .0) (m .0 .1)) (matches-so rs bs (m .1))
 
 -- bytes that match one, two or three ranges
 module _ (P : List ℕ → Type 0) where

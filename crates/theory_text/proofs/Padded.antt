@@ -6,9 +6,10 @@ use native.Mathlib.Omega.{arith}
 use native.Mathlib.Nat.{add-zero}
 use lib.ListN.{length, getD, drop}
 use lib.Seq.{drop-cons, getD-drop}
-use Rattle.theory_text.specs.Table.{After, has, followed, first}
-use Rattle.theory_text.specs.Reading.{valueOf, value}
-use Rattle.theory_text.proofs.Rows.{Row, row-00, row-c2, row-e0, row-e1, row-ed, row-ee, row-f0, row-f1, row-f4, between, beyond, row}
+use Rattle.theory_lists.specs.Bounds.{between}
+use Rattle.theory_text.specs.Table.{After, followed, first}
+use Rattle.theory_text.specs.Reading.{valueOf, decoded}
+use Rattle.theory_text.proofs.Rows.{Row, row-00, row-c2, row-e0, row-e1, row-ed, row-ee, row-f0, row-f1, row-f4, gap, beyond, row}
 
 abbrev pub four : ℕ → ℕ → ℕ → ℕ → List ℕ
 four b0 b1 b2 b3 = b0 ∷ b1 ∷ b2 ∷ b3 ∷ []
@@ -17,7 +18,7 @@ abbrev padded : List ℕ → List ℕ
 padded bs = getD bs 0 0 ∷ getD bs 1 0 ∷ getD bs 2 0 ∷ []
 
 pad : {b : ℕ} {a : After} → Row b a → (bs : List ℕ) → followed a bs ≡ followed a (padded bs)
-unfolding has
+unfolding between
 pad (row-00 h) bs = refl
 pad (row-c2 l h) [] = refl
 pad (row-c2 l h) (x ∷ bs) = refl
@@ -45,7 +46,7 @@ pad (row-f4 e) [] = refl
 pad (row-f4 e) (x ∷ []) = refl
 pad (row-f4 e) (x ∷ y ∷ []) = refl
 pad (row-f4 e) (x ∷ y ∷ z ∷ bs) = refl
-pad (between l h) bs = refl
+pad (gap l h) bs = refl
 pad (beyond l) bs = refl
 
 pub first-four : (b : ℕ) (bs : List ℕ) → first (b ∷ bs) ≡ first (b ∷ padded bs)
@@ -60,7 +61,7 @@ first-at s at h =
     ap first (drop-cons s at 0 h) ∙ first-four (getD s at 0) (drop (suc at) s)
     ∙ rw (ahead s at 0 1 (omega arith), ahead s at 1 2 (omega arith), ahead s at 2 3 (omega arith))
 
-pub value-at : (s : List ℕ) (at n : ℕ) → value n (drop at s) ≡ valueOf n (getD s at 0) (getD s (at + 1) 0) (getD s (at + 2) 0) (getD s (at + 3) 0)
+pub value-at : (s : List ℕ) (at n : ℕ) → decoded n (drop at s) ≡ valueOf n (getD s at 0) (getD s (at + 1) 0) (getD s (at + 2) 0) (getD s (at + 3) 0)
 value-at s at n = simp (getD-drop, add-zero)
 
 pub value-four : (n b0 b1 b2 b3 : ℕ) → 4 ≤ n → ((b0 % 8 * 64 + b1 % 64) * 64 + b2 % 64) * 64 + b3 % 64 ≡ valueOf n b0 b1 b2 b3

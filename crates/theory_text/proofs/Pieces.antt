@@ -6,9 +6,9 @@ use native.Mathlib.Omega.{arith}
 use lib.ListN.{length, take, drop, length-append, take-append-drop}
 use lib.Seq.{take-add, take-at, length-take-le}
 use Rattle.theory_text.specs.Scalar.{Scalar, form}
-use Rattle.theory_text.specs.Text.{Scalars, encode, Valid}
+use Rattle.theory_text.specs.Text.{encode, Valid}
 use Rattle.theory_text.specs.Table.{first}
-use Rattle.theory_text.specs.Reading.{value, scalars, rest, validTo, ReadFrom}
+use Rattle.theory_text.specs.Reading.{decoded, scalars, rest, validTo, ReadFrom}
 use Rattle.theory_text.proofs.Sizes.{length-form}
 use Rattle.theory_text.proofs.Steps.{first-scalar, first-form, first-len}
 use Rattle.theory_text.proofs.Unique.{parts, scalars-are, fronts, valid-encode, valid-rest, rest-valid}
@@ -20,10 +20,6 @@ encode-append (c ∷ cs) ds = rw (encode-append cs ds, append-assoc)
 
 pub encode-push : (cs : List ℕ) (c : ℕ) → encode (cs ++ c ∷ []) ≡ encode cs ++ form c
 encode-push cs c = encode-append cs (c ∷ []) ∙ ap (λ (l : List ℕ). encode cs ++ l) (append-nil (form c))
-
-pub scalars-append : (cs ds : List ℕ) → Scalars cs → Scalars ds → Scalars (cs ++ ds)
-scalars-append [] ds s t = t
-scalars-append (c ∷ cs) ds s t = (s .0, scalars-append cs ds (s .1) t)
 
 -- ---- reading in pieces
 module _ (t u : List ℕ) where
@@ -81,12 +77,12 @@ pub form-valid : (c : ℕ) → Scalar c → Valid (form c)
 form-valid c s = (c ∷ [], (s, tt), append-nil (form c))
 
 -- the bytes of the first scalar
-pub take-first : (bs : List ℕ) → 0 < first bs → take (first bs) bs ≡ form (value (first bs) bs)
+pub take-first : (bs : List ℕ) → 0 < first bs → take (first bs) bs ≡ form (decoded (first bs) bs)
 take-first bs p =
-    ap (take (first bs)) (sym (first-form bs p)) ∙ take-at (form (value (first bs) bs)) (drop (first bs) bs) (first bs) (length-form (value (first bs) bs) ∙ first-len bs p)
+    ap (take (first bs)) (sym (first-form bs p)) ∙ take-at (form (decoded (first bs) bs)) (drop (first bs) bs) (first bs) (length-form (decoded (first bs) bs) ∙ first-len bs p)
 
 -- one scalar more
 pub valid-extend : (s : List ℕ) (at : ℕ) → Valid (take at s) → 0 < first (drop at s) → Valid (take (at + first (drop at s)) s)
 valid-extend s at v p =
     rw (take-add at (first (drop at s)) s, take-first (drop at s) p)
-    (valid-append (take at s) (form (value (first (drop at s)) (drop at s))) v (form-valid (value (first (drop at s)) (drop at s)) (first-scalar (drop at s) p)))
+    (valid-append (take at s) (form (decoded (first (drop at s)) (drop at s))) v (form-valid (decoded (first (drop at s)) (drop at s)) (first-scalar (drop at s) p)))

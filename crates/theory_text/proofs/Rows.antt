@@ -6,8 +6,9 @@ use native.Mathlib.Omega.{arith}
 use lib.Dec.{ltb}
 use borrow.Author.Tests.{ltb-true, ltb-false}
 use Rattle.theory_whole.proofs.Cases.{by-test}
+use Rattle.theory_lists.proofs.Between.{is-between, not-below, not-above}
 use Rattle.theory_text.specs.Table.{Range, _to_, After, more, wrong, after}
-use Rattle.theory_text.proofs.Tests.{by-high, has-in, has-below, has-above}
+use Rattle.theory_text.proofs.Tests.{by-high}
 
 -- 10xxxxxx
 abbrev pub any : Range
@@ -23,7 +24,7 @@ pub data Row (b : ℕ) : After → Type 0 where
   row-f0 : b ≡ 0xf0 → Row b (more ((0x90 to 0xbf) ∷ any ∷ any ∷ []))
   row-f1 : 0xf1 ≤ b → b < 0xf4 → Row b (more (any ∷ any ∷ any ∷ []))
   row-f4 : b ≡ 0xf4 → Row b (more ((0x80 to 0x8f) ∷ any ∷ any ∷ []))
-  between : 0x80 ≤ b → b < 0xc2 → Row b wrong
+  gap : 0x80 ≤ b → b < 0xc2 → Row b wrong
   beyond : 0xf5 ≤ b → Row b wrong
 
 module _ (b : ℕ) where
@@ -31,22 +32,22 @@ module _ (b : ℕ) where
   unfolding after
   low-wrong l h =
       simp (
-        has-above 0x00 0x7f b l,
-        has-below 0xc2 0xdf b h,
-        has-below 0xe0 0xe0 b (omega arith),
-        has-below 0xe1 0xec b (omega arith),
-        has-below 0xed 0xed b (omega arith),
-        has-below 0xee 0xef b (omega arith),
-        has-below 0xf0 0xf0 b (omega arith),
-        has-below 0xf1 0xf3 b (omega arith),
-        has-below 0xf4 0xf4 b (omega arith),
+        not-above 0x00 0x7f b l,
+        not-below 0xc2 0xdf b h,
+        not-below 0xe0 0xe0 b (omega arith),
+        not-below 0xe1 0xec b (omega arith),
+        not-below 0xed 0xed b (omega arith),
+        not-below 0xee 0xef b (omega arith),
+        not-below 0xf0 0xf0 b (omega arith),
+        not-below 0xf1 0xf3 b (omega arith),
+        not-below 0xf4 0xf4 b (omega arith),
       )
 
   -- from the byte on which the ranges of the rows follow one another
   high-rows : 0xc2 ≤ b → Row b (after b)
   unfolding after
   high-rows l =
-      rw (has-above 0x00 0x7f b (omega arith))
+      rw (not-above 0x00 0x7f b (omega arith))
       (by-high 0xc2 0xdf b (Row b) l (λ h. row-c2 l (omega arith))
       (λ l. by-high 0xe0 0xe0 b (Row b) l (λ h. row-e0 (omega arith))
       (λ l. by-high 0xe1 0xec b (Row b) l (λ h. row-e1 l (omega arith))
@@ -58,28 +59,28 @@ module _ (b : ℕ) where
 
   ascii-row : b < 0x80 → Row b (after b)
   unfolding after
-  ascii-row h = rw (has-in 0x00 0x7f b (omega arith) (omega arith)) (row-00 h)
+  ascii-row h = rw (is-between 0x00 0x7f b (omega arith) (omega arith)) (row-00 h)
 
   pub row : Row b (after b)
   row =
       by-test (ltb b 0xc2)
       (λ e. let h = ltb-true b 0xc2 e in
       by-test (ltb b 0x80) (λ e′. ascii-row (ltb-true b 0x80 e′))
-      (λ e′. let l = ltb-false b 0x80 e′ in rw (low-wrong l h) (between l h)))
+      (λ e′. let l = ltb-false b 0x80 e′ in rw (low-wrong l h) (gap l h)))
       (λ e. high-rows (ltb-false b 0xc2 e))
 
 -- ---- a byte has only one row
 module _ {b : ℕ} where
   pub row-is : {a : After} → Row b a → after b ≡ a
   unfolding after
-  row-is (row-00 h) = simp (has-in 0x00 0x7f b (omega arith) (omega arith))
-  row-is (row-c2 l h) = simp (has-above 0x00 0x7f b (omega arith), has-in 0xc2 0xdf b (omega arith) (omega arith))
-  row-is (row-e0 e) = simp (has-above 0x00 0x7f b (omega arith), has-above 0xc2 0xdf b (omega arith), has-in 0xe0 0xe0 b (omega arith) (omega arith))
-  row-is (row-e1 l h) = simp (has-above 0x00 0x7f b (omega arith), has-above 0xc2 0xdf b (omega arith), has-above 0xe0 0xe0 b (omega arith), has-in 0xe1 0xec b (omega arith) (omega arith))
-  row-is (row-ed e) = simp (has-above 0x00 0x7f b (omega arith), has-above 0xc2 0xdf b (omega arith), has-above 0xe0 0xe0 b (omega arith), has-above 0xe1 0xec b (omega arith), has-in 0xed 0xed b (omega arith) (omega arith))
-  row-is (row-ee l h) = simp (has-above 0x00 0x7f b (omega arith), has-above 0xc2 0xdf b (omega arith), has-above 0xe0 0xe0 b (omega arith), has-above 0xe1 0xec b (omega arith), has-above 0xed 0xed b (omega arith), has-in 0xee 0xef b (omega arith) (omega arith))
-  row-is (row-f0 e) = simp (has-above 0x00 0x7f b (omega arith), has-above 0xc2 0xdf b (omega arith), has-above 0xe0 0xe0 b (omega arith), has-above 0xe1 0xec b (omega arith), has-above 0xed 0xed b (omega arith), has-above 0xee 0xef b (omega arith), has-in 0xf0 0xf0 b (omega arith) (omega arith))
-  row-is (row-f1 l h) = simp (has-above 0x00 0x7f b (omega arith), has-above 0xc2 0xdf b (omega arith), has-above 0xe0 0xe0 b (omega arith), has-above 0xe1 0xec b (omega arith), has-above 0xed 0xed b (omega arith), has-above 0xee 0xef b (omega arith), has-above 0xf0 0xf0 b (omega arith), has-in 0xf1 0xf3 b (omega arith) (omega arith))
-  row-is (row-f4 e) = simp (has-above 0x00 0x7f b (omega arith), has-above 0xc2 0xdf b (omega arith), has-above 0xe0 0xe0 b (omega arith), has-above 0xe1 0xec b (omega arith), has-above 0xed 0xed b (omega arith), has-above 0xee 0xef b (omega arith), has-above 0xf0 0xf0 b (omega arith), has-above 0xf1 0xf3 b (omega arith), has-in 0xf4 0xf4 b (omega arith) (omega arith))
-  row-is (between l h) = low-wrong b l h
-  row-is (beyond l) = simp (has-above 0x00 0x7f b (omega arith), has-above 0xc2 0xdf b (omega arith), has-above 0xe0 0xe0 b (omega arith), has-above 0xe1 0xec b (omega arith), has-above 0xed 0xed b (omega arith), has-above 0xee 0xef b (omega arith), has-above 0xf0 0xf0 b (omega arith), has-above 0xf1 0xf3 b (omega arith), has-above 0xf4 0xf4 b (omega arith))
+  row-is (row-00 h) = simp (is-between 0x00 0x7f b (omega arith) (omega arith))
+  row-is (row-c2 l h) = simp (not-above 0x00 0x7f b (omega arith), is-between 0xc2 0xdf b (omega arith) (omega arith))
+  row-is (row-e0 e) = simp (not-above 0x00 0x7f b (omega arith), not-above 0xc2 0xdf b (omega arith), is-between 0xe0 0xe0 b (omega arith) (omega arith))
+  row-is (row-e1 l h) = simp (not-above 0x00 0x7f b (omega arith), not-above 0xc2 0xdf b (omega arith), not-above 0xe0 0xe0 b (omega arith), is-between 0xe1 0xec b (omega arith) (omega arith))
+  row-is (row-ed e) = simp (not-above 0x00 0x7f b (omega arith), not-above 0xc2 0xdf b (omega arith), not-above 0xe0 0xe0 b (omega arith), not-above 0xe1 0xec b (omega arith), is-between 0xed 0xed b (omega arith) (omega arith))
+  row-is (row-ee l h) = simp (not-above 0x00 0x7f b (omega arith), not-above 0xc2 0xdf b (omega arith), not-above 0xe0 0xe0 b (omega arith), not-above 0xe1 0xec b (omega arith), not-above 0xed 0xed b (omega arith), is-between 0xee 0xef b (omega arith) (omega arith))
+  row-is (row-f0 e) = simp (not-above 0x00 0x7f b (omega arith), not-above 0xc2 0xdf b (omega arith), not-above 0xe0 0xe0 b (omega arith), not-above 0xe1 0xec b (omega arith), not-above 0xed 0xed b (omega arith), not-above 0xee 0xef b (omega arith), is-between 0xf0 0xf0 b (omega arith) (omega arith))
+  row-is (row-f1 l h) = simp (not-above 0x00 0x7f b (omega arith), not-above 0xc2 0xdf b (omega arith), not-above 0xe0 0xe0 b (omega arith), not-above 0xe1 0xec b (omega arith), not-above 0xed 0xed b (omega arith), not-above 0xee 0xef b (omega arith), not-above 0xf0 0xf0 b (omega arith), is-between 0xf1 0xf3 b (omega arith) (omega arith))
+  row-is (row-f4 e) = simp (not-above 0x00 0x7f b (omega arith), not-above 0xc2 0xdf b (omega arith), not-above 0xe0 0xe0 b (omega arith), not-above 0xe1 0xec b (omega arith), not-above 0xed 0xed b (omega arith), not-above 0xee 0xef b (omega arith), not-above 0xf0 0xf0 b (omega arith), not-above 0xf1 0xf3 b (omega arith), is-between 0xf4 0xf4 b (omega arith) (omega arith))
+  row-is (gap l h) = low-wrong b l h
+  row-is (beyond l) = simp (not-above 0x00 0x7f b (omega arith), not-above 0xc2 0xdf b (omega arith), not-above 0xe0 0xe0 b (omega arith), not-above 0xe1 0xec b (omega arith), not-above 0xed 0xed b (omega arith), not-above 0xee 0xef b (omega arith), not-above 0xf0 0xf0 b (omega arith), not-above 0xf1 0xf3 b (omega arith), not-above 0xf4 0xf4 b (omega arith))

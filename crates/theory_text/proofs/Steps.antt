@@ -7,18 +7,18 @@ use lib.ListN.{length, drop, length-append, length-drop, drop-of-length-le}
 use lib.Seq.{drop-at, drop-drop}
 use Rattle.theory_text.specs.Scalar.{Scalar, len, form}
 use Rattle.theory_text.specs.Table.{first}
-use Rattle.theory_text.specs.Reading.{value, scalarsFrom, restFrom, scalars, rest}
+use Rattle.theory_text.specs.Reading.{decoded, scalarsFrom, restFrom, scalars, rest}
 use Rattle.theory_text.proofs.Sizes.{sized, len-is, length-form, form-as}
 use Rattle.theory_text.proofs.Forms.{read, written-first, written-value}
 
 -- ---- the first scalar
-pub first-scalar : (bs : List ℕ) → 0 < first bs → Scalar (value (first bs) bs)
+pub first-scalar : (bs : List ℕ) → 0 < first bs → Scalar (decoded (first bs) bs)
 first-scalar bs p = read bs p .scalar
 
-pub first-len : (bs : List ℕ) → 0 < first bs → len (value (first bs) bs) ≡ first bs
+pub first-len : (bs : List ℕ) → 0 < first bs → len (decoded (first bs) bs) ≡ first bs
 first-len bs p = len-is (read bs p .size)
 
-pub first-form : (bs : List ℕ) → 0 < first bs → form (value (first bs) bs) ++ drop (first bs) bs ≡ bs
+pub first-form : (bs : List ℕ) → 0 < first bs → form (decoded (first bs) bs) ++ drop (first bs) bs ≡ bs
 first-form bs p = ap (λ (l : List ℕ). l ++ drop (first bs) bs) (form-as (read bs p .size)) ∙ read bs p .whole
 
 pub first-within : (bs : List ℕ) → first bs ≤ length bs
@@ -28,13 +28,13 @@ first-within bs = go (first bs) refl
     go zero e = omega arith
     go (suc n) e =
         let p : 0 < first bs = omega arith in
-        omega (arith, ap length (first-form bs p), length-append (form (value (first bs) bs)) (drop (first bs) bs), length-form (value (first bs) bs), first-len bs p)
+        omega (arith, ap length (first-form bs p), length-append (form (decoded (first bs) bs)) (drop (first bs) bs), length-form (decoded (first bs) bs), first-len bs p)
 
 module _ (c : ℕ) (s : Scalar c) (r : List ℕ) where
   pub form-first : first (form c ++ r) ≡ len c
   form-first = written-first (sized c) s r
 
-  pub form-value : value (len c) (form c ++ r) ≡ c
+  pub form-value : decoded (len c) (form c ++ r) ≡ c
   form-value = written-value (sized c) s r
 
   pub drop-form : drop (len c) (form c ++ r) ≡ r
@@ -72,22 +72,18 @@ unfolding scalarsFrom
 scalars-stop [] e = refl
 scalars-stop (b ∷ bs) e = rw (e, scalarsFrom)
 
-pub scalars-step : (bs : List ℕ) → 0 < first bs → scalars bs ≡ value (first bs) bs ∷ scalars (drop (first bs) bs)
+pub scalars-step : (bs : List ℕ) → 0 < first bs → scalars bs ≡ decoded (first bs) bs ∷ scalars (drop (first bs) bs)
 unfolding scalarsFrom
 scalars-step [] h = absurd (omega arith)
 scalars-step (b ∷ bs) h = go (first (b ∷ bs)) refl h
   where
-    go : (n : ℕ) → first (b ∷ bs) ≡ n → 0 < n → scalars (b ∷ bs) ≡ value n (b ∷ bs) ∷ scalars (drop n (b ∷ bs))
+    go : (n : ℕ) → first (b ∷ bs) ≡ n → 0 < n → scalars (b ∷ bs) ≡ decoded n (b ∷ bs) ∷ scalars (drop n (b ∷ bs))
     go zero e p = absurd (omega arith)
-    go (suc k) e p = rw (e, scalarsFrom) (ap (λ (l : List ℕ). value (suc k) (b ∷ bs) ∷ l) (scalars-skip k bs))
+    go (suc k) e p = rw (e, scalarsFrom) (ap (λ (l : List ℕ). decoded (suc k) (b ∷ bs) ∷ l) (scalars-skip k bs))
 
 -- ---- the same by places
 pub rest-next : (s : List ℕ) (at : ℕ) → 0 < first (drop at s) → rest (drop (at + first (drop at s)) s) ≡ rest (drop at s)
 rest-next s at h = rw (← drop-drop (first (drop at s)) at s) (sym (rest-step (drop at s) h))
-
-pub scalars-next : (s : List ℕ) (at : ℕ) → 0 < first (drop at s)
-    → scalars (drop at s) ≡ value (first (drop at s)) (drop at s) ∷ scalars (drop (at + first (drop at s)) s)
-scalars-next s at h = rw (← drop-drop (first (drop at s)) at s) (scalars-step (drop at s) h)
 
 pub next-within : (s : List ℕ) (at : ℕ) → at ≤ length s → at + first (drop at s) ≤ length s
 next-within s at h = omega (arith, first-within (drop at s), length-drop at s)

@@ -2,10 +2,11 @@
 use mathlib.Core.Path.{_≡_, refl}
 use mathlib.Core.Bool.{Bool, true, false, cond}
 use Prim.Native.Nat.{ℕ, _<_, _≤_}
-use lib.Dec.{ltb, leb, eqb}
-use borrow.Author.Tests.{ltb-true, ltb-false, leb-true, leb-false, eqb-true, eqb-false, le-leb, lt-leb}
-use Rattle.theory_whole.proofs.Cases.{by-test, never, both, both-are, first-not, second-not}
-use Rattle.theory_text.specs.Table.{_to_, has}
+use lib.Dec.{ltb, leb}
+use borrow.Author.Tests.{ltb-true, ltb-false, leb-true, leb-false}
+use Rattle.theory_whole.proofs.Cases.{by-test, never}
+use Rattle.theory_lists.specs.Bounds.{between}
+use Rattle.theory_lists.proofs.Between.{is-between, bounds-of}
 
 module _ {A : Type 0} (P : A → Type 0) where
   pub by-cond : (t : Bool) {x y : A} → (t ≡ true → P x) → (t ≡ false → P y) → P (cond t x y)
@@ -16,34 +17,9 @@ module _ {A : Type 0} (P : A → Type 0) where
     pub by-ltb : (m < n → P x) → (n ≤ m → P y) → P (cond (ltb m n) x y)
     by-ltb f g = by-cond (ltb m n) (λ e. f (ltb-true m n e)) (λ e. g (ltb-false m n e))
 
-    pub by-leb : (m ≤ n → P x) → (n < m → P y) → P (cond (leb m n) x y)
-    by-leb f g = by-cond (leb m n) (λ e. f (leb-true m n e)) (λ e. g (leb-false m n e))
-
-    pub by-eqb : (m ≡ n → P x) → ((m ≡ n → ⊥) → P y) → P (cond (eqb m n) x y)
-    by-eqb f g = by-cond (eqb m n) (λ e. f (eqb-true m n e)) (λ e. g (eqb-false m n e))
-
--- a range has a byte
+-- where the byte is known to be no smaller
 module _ (l h b : ℕ) where
-  pub has-in : l ≤ b → b ≤ h → has (l to h) b ≡ true
-  unfolding has
-  has-in p q = both (le-leb l b p) (le-leb b h q)
-
-  pub has-below : b < l → has (l to h) b ≡ false
-  unfolding has
-  has-below p = first-not (leb b h) (lt-leb l b p)
-
-  pub has-above : h < b → has (l to h) b ≡ false
-  unfolding has
-  has-above p = second-not (leb l b) (lt-leb b h p)
-
-  pub in-has : has (l to h) b ≡ true → (l ≤ b) × (b ≤ h)
-  unfolding has
-  in-has e =
-      let p = both-are (leb l b) (leb b h) e in
-      (leb-true l b (p .0), leb-true b h (p .1))
-
-  -- where the byte is known to be no smaller
-  pub by-high : {A : Type 0} (P : A → Type 0) {x y : A} → l ≤ b → (b ≤ h → P x) → (h < b → P y) → P (cond (has (l to h) b) x y)
+  pub by-high : {A : Type 0} (P : A → Type 0) {x y : A} → l ≤ b → (b ≤ h → P x) → (h < b → P y) → P (cond (between l h b) x y)
   by-high P p f g =
-      by-cond P (has (l to h) b) (λ e. f (in-has e .1))
-      (λ e. by-test (leb b h) (λ q. never (has-in p (leb-true b h q)) e) (λ q. g (leb-false b h q)))
+      by-cond P (between l h b) (λ e. f (bounds-of l h b e .1))
+      (λ e. by-test (leb b h) (λ q. never (is-between l h b p (leb-true b h q)) e) (λ q. g (leb-false b h q)))

@@ -2,13 +2,14 @@
 use Prim.Native.Nat.{ℕ}
 use mathlib.Core.Bool.{cond}
 use mathlib.Core.List.{List, [], _∷_}
-use Rattle.theory_text.specs.Table.{After, more, wrong, has, after}
+use Rattle.theory_lists.specs.Bounds.{between}
+use Rattle.theory_text.specs.Table.{After, more, wrong, after}
 
 abbrev pub step : After → ℕ → After
 step wrong b = wrong
 step (more []) b = after b
-step (more (r ∷ rs)) b = cond (has r b) (more rs) wrong
+step (more (r ∷ rs)) b = cond (between (r .low) (r .high) b) (more rs) wrong
 
-abbrev pub run : After → List ℕ → After
-run q [] = q
-run q (b ∷ bs) = run (step q b) bs
+abbrev pub steps : After → List ℕ → After
+steps q [] = q
+steps q (b ∷ bs) = steps (step q b) bs

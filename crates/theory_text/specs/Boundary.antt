@@ -6,7 +6,7 @@ use mathlib.Core.List.{List, [], _∷_}
 use lib.ListN.{length, getD, take, drop}
 use Rattle.theory_text.specs.Text.{encode, Valid}
 use Rattle.theory_text.specs.Reading.{scalars}
-use Rattle.theory_text.specs.ByValue.{follows}
+use Rattle.theory_text.specs.Scalar.{follows}
 
 -- where the n-th of the scalars begins; the end, where there are just n
 abbrev pub place : List ℕ → ℕ → ℕ
@@ -31,7 +31,8 @@ unfoldable pub started : List ℕ → ℕ
 started [] = 0
 started (b ∷ s) = cond (follows b) (started s) (suc (started s))
 
--- the last k bytes of s, at most four, from the last that is no 10xxxxxx on
+-- how far to go back from the end of s for the start of a scalar: k bytes, all of them 10xxxxxx but the first; that one is none,
+-- unless going back ends there because it is the fourth from the end, or the first of s
 pub record Back (s : List ℕ) (k : ℕ) : Type 0 where
   pub some : 0 < k
   pub most : k ≤ 4

@@ -2,9 +2,7 @@ pub mod Scalar
 pub mod Text
 pub mod Table
 pub mod Reading
-pub mod ByValue
 pub mod Boundary
 pub mod Ascii
 pub mod WhiteSpace
-pub mod Answer
 pub mod Automaton

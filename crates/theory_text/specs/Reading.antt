@@ -14,14 +14,14 @@ valueOf (suc (suc zero)) b0 b1 b2 b3 = b0 % 32 * 64 + b1 % 64
 valueOf (suc (suc (suc zero))) b0 b1 b2 b3 = (b0 % 16 * 64 + b1 % 64) * 64 + b2 % 64
 valueOf (suc (suc (suc (suc n)))) b0 b1 b2 b3 = ((b0 % 8 * 64 + b1 % 64) * 64 + b2 % 64) * 64 + b3 % 64
 
-abbrev pub value : ℕ → List ℕ → ℕ
-value n bs = valueOf n (getD bs 0 0) (getD bs 1 0) (getD bs 2 0) (getD bs 3 0)
+abbrev pub decoded : ℕ → List ℕ → ℕ
+decoded n bs = valueOf n (getD bs 0 0) (getD bs 1 0) (getD bs 2 0) (getD bs 3 0)
 
 -- the scalars that are read, and the bytes at which no scalar begins any more; the first so many bytes belong to a scalar that was read
 unfoldable pub scalarsFrom : ℕ → List ℕ → List ℕ
 scalarsFrom k [] = []
 scalarsFrom (suc k) (b ∷ bs) = scalarsFrom k bs
-scalarsFrom zero (b ∷ bs) = elim (first (b ∷ bs)) [ zero ↦ [] | suc k ↦ value (suc k) (b ∷ bs) ∷ scalarsFrom k bs ]
+scalarsFrom zero (b ∷ bs) = elim (first (b ∷ bs)) [ zero ↦ [] | suc k ↦ decoded (suc k) (b ∷ bs) ∷ scalarsFrom k bs ]
 
 unfoldable pub restFrom : ℕ → List ℕ → List ℕ
 restFrom k [] = []

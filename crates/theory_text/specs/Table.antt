@@ -3,7 +3,7 @@ use Prim.Native.Nat.{ℕ, suc}
 use mathlib.Core.Bool.{Bool, true, false, cond, _&&_}
 use mathlib.Core.List.{List, [], _∷_}
 use lib.ListN.{length}
-use lib.Dec.{leb}
+use Rattle.theory_lists.specs.Bounds.{between}
 
 pub record Range : Type 0 where
   pub low : ℕ
@@ -26,14 +26,11 @@ rows =
     ∷ ((0xf4 to 0xf4) ∷ (0x80 to 0x8f) ∷ (0x80 to 0xbf) ∷ (0x80 to 0xbf) ∷ [])
     ∷ []
 
-unfoldable pub has : Range → ℕ → Bool
-has r b = leb (r .low) b && leb b (r .high)
-
 -- bs begins with bytes of these ranges
 abbrev pub matches : List Range → List ℕ → Bool
 matches [] bs = true
 matches (r ∷ rs) [] = false
-matches (r ∷ rs) (b ∷ bs) = has r b && matches rs bs
+matches (r ∷ rs) (b ∷ bs) = between (r .low) (r .high) b && matches rs bs
 
 -- what a first byte asks for: the ranges of the bytes that must follow, or it is wrong
 pub data After : Type 0 where
@@ -43,7 +40,7 @@ pub data After : Type 0 where
 abbrev pub afterIn : List (List Range) → ℕ → After
 afterIn [] b = wrong
 afterIn ([] ∷ others) b = afterIn others b
-afterIn ((r ∷ rs) ∷ others) b = cond (has r b) (more rs) (afterIn others b)
+afterIn ((r ∷ rs) ∷ others) b = cond (between (r .low) (r .high) b) (more rs) (afterIn others b)
 
 unfoldable pub after : ℕ → After
 after b = afterIn rows b

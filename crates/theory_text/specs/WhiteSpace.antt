@@ -1,12 +1,6 @@
 -- White space is a list of scalar values: the 25 with Unicode's property White_Space.
 use Prim.Native.Nat.{ℕ}
-use mathlib.Core.Bool.{Bool, false, _||_}
 use mathlib.Core.List.{List, [], _∷_}
-use lib.Dec.{eqb}
-
-abbrev pub listed : List ℕ → ℕ → Bool
-listed [] c = false
-listed (x ∷ xs) c = eqb c x || listed xs c
 
 abbrev pub whiteSpace : List ℕ
 whiteSpace =

@@ -31,7 +31,7 @@ module _ {m : ℕ} where
       record { halves = equal e then turned (p .halves) then equal e′ }
 
 -- the product, in halves
-product : (x y : ℤ) → up (x *ℤ y) + (up x * down y + down x * up y) ≡ up x * up y + down x * down y + down (x *ℤ y)
+pub product : (x y : ℤ) → up (x *ℤ y) + (up x * down y + down x * up y) ≡ up x * up y + down x * down y + down (x *ℤ y)
 product (pos a) (pos b) = rw (mul-zero a, zero-mul b, zero-mul zero) (omega arith)
 product (pos a) (negsuc b) = rw (mul-zero a, zero-mul (suc b), zero-mul zero) (omega (arith, up-neg (pos (a * suc b)), down-neg (pos (a * suc b))))
 product (negsuc a) (pos b) = rw (mul-zero (suc a), zero-mul b, zero-mul zero) (omega (arith, up-neg (pos (suc a * b)), down-neg (pos (suc a * b))))

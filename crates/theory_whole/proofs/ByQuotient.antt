@@ -11,7 +11,8 @@ use borrow.Author.Tests.{ltb-true, ltb-false}
 use lib.IntN.{ℤ, pos, negsuc, negℤ, natAbs, _+ℤ_, _-ℤ_, _*ℤ_, *ℤ-comm}
 use lib.Signed.{quotZ, remZ}
 use Rattle.theory_whole.specs.Kind.{unsigned, signed}
-use Rattle.theory_whole.specs.Fit.{wrap, refuse, Answers}
+use Rattle.theory_answers.specs.Answer.{Answers}
+use Rattle.theory_whole.specs.Fit.{wrap, refuse}
 use Rattle.theory_whole.proofs.Halves.{up, down, by-halves, same-halves, sum, difference}
 use Rattle.theory_whole.proofs.Cases.{by-test}
 use Rattle.theory_whole.proofs.Alike.{Alike, alike-itself, alike-same, alike-then, alike-minus}

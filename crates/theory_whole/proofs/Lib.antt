@@ -11,6 +11,7 @@ pub mod Signs
 pub mod ByQuotient
 pub mod Narrow
 pub mod Divisions
+pub mod OnlyPairs
 pub mod Quotients
 pub mod Unsigned
 pub mod Products

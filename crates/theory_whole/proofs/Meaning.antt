@@ -7,12 +7,13 @@ use native.Mathlib.Omega.{arith}
 use lib.IntN.{ℤ, pos, natAbs, _+ℤ_, _-ℤ_, _*ℤ_, *ℤ-zero, +ℤ-idr}
 use Rattle.theory_whole.specs.Kind.{Kind, least, greatest}
 use Rattle.theory_whole.specs.Division.{_modulo_, ediv}
-use Rattle.theory_whole.specs.Fit.{fits, wrap, clamp, refused, value, refuse}
+use Rattle.theory_answers.specs.Answer.{refused, answered}
+use Rattle.theory_whole.specs.Fit.{fits, wrap, clamp, refuse}
 use Rattle.theory_whole.proofs.Halves.{up, down, by-halves, same-halves, up-neg, down-neg, sum, difference}
 use Rattle.theory_whole.proofs.Alike.{Alike, alike-itself, alike-same, alike-turned, alike-once, alike-then, alike-add, alike-mul}
 use Rattle.theory_whole.proofs.Fits.{Real, In, Out, under, over, in-or-out, fits-in}
 use Rattle.theory_whole.proofs.Wrap.{wrap-is}
-use Rattle.theory_whole.proofs.Refuse.{only-if-so, only-if-not}
+use Rattle.theory_answers.proofs.Answer.{only-if-so, only-if-not}
 use Rattle.theory_whole.proofs.Clamp.{Nearest, distance, clamp-in, clamp-over, clamp-under}
 use Rattle.theory_whole.proofs.Divisions.{euclidean}
 
@@ -47,13 +48,13 @@ module _ {k : Kind} (real : Real k) (z : ℤ) where
 
 -- ---- refuse: the number itself exactly where it fits
 
-pub refuse-fits : (k : Kind) (z : ℤ) → fits k z ≡ true → refuse k z ≡ value z
+pub refuse-fits : (k : Kind) (z : ℤ) → fits k z ≡ true → refuse k z ≡ answered z
 unfolding refuse
-refuse-fits k z e = only-if-so (fits k z) (value z) e
+refuse-fits k z e = only-if-so (fits k z) (answered z) e
 
 pub refuse-not : (k : Kind) (z : ℤ) → fits k z ≡ false → refuse k z ≡ refused
 unfolding refuse
-refuse-not k z e = only-if-not (fits k z) (value z) e
+refuse-not k z e = only-if-not (fits k z) (answered z) e
 
 -- ---- clamp: nearest (`clamp-nearest`), and alone in that
 

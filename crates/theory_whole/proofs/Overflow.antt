@@ -8,7 +8,8 @@ use native.Mathlib.Omega.{arith}
 use lib.IntN.{ℤ, pos, _+ℤ_, _-ℤ_}
 use lib.Signed.{ltZ}
 use Rattle.theory_whole.specs.Kind.{Kind}
-use Rattle.theory_whole.specs.Fit.{fits, wrap, refuse, Answers}
+use Rattle.theory_answers.specs.Answer.{Answers}
+use Rattle.theory_whole.specs.Fit.{fits, wrap, refuse}
 use Rattle.theory_whole.proofs.Cases.{by-test, never, so, not-so}
 use Rattle.theory_whole.proofs.Halves.{up, down, same-halves, sum, difference, lt-yes, lt-no}
 use Rattle.theory_whole.proofs.Fits.{Real, In, Out, under, over, in-or-out, in-fits, out-not-fits, fits-in, not-fits-out}

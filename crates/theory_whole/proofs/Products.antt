@@ -1,7 +1,7 @@
 -- Products of naturals against a power of two: tested by a division, and the lower half of one from halves of its factors.
 use mathlib.Core.Path.{_≡_, sym, ap, _∙_, subst, subst⁻¹}
-use Prim.Native.Nat.{ℕ, _+_, _-_, _*_, _/_, _%_, _^_, _≤_, _<_}
-use native.Mathlib.Nat.{add-mul, mul-add, mul-assoc, mul-comm, mul-left-comm, add-assoc, add-comm, add-left-comm, mod-lt, div-lt-iff-lt-mul, le-div-iff-mul-le, div-add-mod', lt-of-le-of-lt, le-of-lt, mul-le-mul-left, mul-lt-mul-of-pos-right, mul-zero}
+use Prim.Native.Nat.{ℕ, _+_, _-_, _*_, _/_, _%_, _^_, _<_}
+use native.Mathlib.Nat.{add-mul, mul-add, mul-assoc, mul-comm, mul-left-comm, add-assoc, add-comm, add-left-comm, mod-lt, div-lt-iff-lt-mul, div-add-mod', lt-of-le-of-lt, le-of-lt, mul-le-mul-left, mul-lt-mul-of-pos-right, mul-zero}
 use native.Mathlib.Omega.{arith}
 use lib.Pow.{pow-pos, pow-add}
 use lib.IntN.{pos}
@@ -11,7 +11,7 @@ use Rattle.theory_whole.proofs.Congruence.{Cong, equal, itself, _then_,
 use Rattle.theory_whole.proofs.Alike.{Alike}
 use Rattle.theory_whole.proofs.Fits.{real-unsigned}
 use Rattle.theory_whole.proofs.Wrap.{wrap-alike, wrap-in, wrap-is}
-use Rattle.theory_whole.proofs.Unsigned.{in-unsigned, unsigned-below, positive}
+use Rattle.theory_whole.proofs.Unsigned.{in-unsigned, unsigned-below}
 
 pub product-below : (i j : ℕ) {a b : ℕ} → a < 2 ^ i → b < 2 ^ j → a * b < 2 ^ (i + j)
 product-below i j {a} {b} p q =

@@ -8,22 +8,25 @@ use lib.Pow.{pow-pos}
 use lib.IntN.{ℤ, pos, _-ℤ_}
 use borrow.Author.Tests.{eq-eqb, ne-eqb}
 use Rattle.theory_whole.specs.Kind.{unsigned}
-use Rattle.theory_whole.specs.Division.{_modulo_, isZero, ediv}
-use Rattle.theory_whole.specs.Fit.{wrap, clamp, Answer, refuse, divided, only-if, Answers}
+use Rattle.theory_whole.specs.Division.{_modulo_, ediv}
+use Rattle.theory_whole.specs.Order.{eqZ}
+use Rattle.theory_answers.specs.Answer.{Answer, only-if, Answers}
+use Rattle.theory_whole.specs.Fit.{wrap, clamp, refuse, divided}
 use Rattle.theory_whole.proofs.Halves.{up, down, by-halves, difference}
 use Rattle.theory_whole.proofs.Alike.{modulo-below, modulo-alike}
 use Rattle.theory_whole.proofs.Fits.{In, Out, under, over, real-unsigned, in-fits}
 use Rattle.theory_whole.proofs.Wrap.{wrap-is, wrap-same, wrap-over, wrap-under}
-use Rattle.theory_whole.proofs.Refuse.{accepts, refuses, accepted, declined, answer, refusal, only-if-so, only-if-not, divided-so, divided-by-zero}
+use Rattle.theory_answers.proofs.Answer.{answer, refusal, only-if-so, only-if-not}
+use Rattle.theory_whole.proofs.Refuse.{accepts, refuses, accepted, declined, divided-so, divided-by-zero}
 use Rattle.theory_whole.proofs.Clamp.{clamp-in, clamp-over, clamp-under}
 
 pub difference-is : {a b : ℕ} → b ≤ a → pos (a - b) ≡ pos a -ℤ pos b
 difference-is {a} {b} h = let d = difference (pos a) (pos b) in by-halves (pos (a - b)) (pos a -ℤ pos b) (omega arith)
 
-pub is-zero : (b : ℕ) → b ≡ 0 → isZero (pos b) ≡ true
+pub is-zero : (b : ℕ) → b ≡ 0 → eqZ (pos b) (pos 0) ≡ true
 is-zero b e = eq-eqb b 0 e
 
-pub not-zero : (b : ℕ) → (b ≡ 0 → ⊥) → isZero (pos b) ≡ false
+pub not-zero : (b : ℕ) → (b ≡ 0 → ⊥) → eqZ (pos b) (pos 0) ≡ false
 not-zero b n = ne-eqb b 0 n
 
 pub positive : (b : ℕ) → (b ≡ 0 → ⊥) → 0 < b
@@ -110,8 +113,8 @@ module _ (w : ℕ) where
         (in-fits (real-unsigned w) (pos (a / b)) (in-unsigned (lt-of-le-of-lt (div-le-self a b) h))))
 
 -- ---- what is asked of a divisor
-pub by-zero-refused : {b : ℕ} (x : Answer) → b ≡ 0 → Answers false (pos 0) (only-if (not (isZero (pos b))) x)
-by-zero-refused {b} x e = refusal (only-if (not (isZero (pos b))) x) (only-if-not (not (isZero (pos b))) x (rw (is-zero b e)))
+pub by-zero-refused : {b : ℕ} (x : Answer) → b ≡ 0 → Answers false (pos 0) (only-if (not (eqZ (pos b) (pos 0))) x)
+by-zero-refused {b} x e = refusal (only-if (not (eqZ (pos b) (pos 0))) x) (only-if-not (not (eqZ (pos b) (pos 0))) x (rw (is-zero b e)))
 
-pub by-other : {b : ℕ} (ok : Bool) (v : ℤ) (x : Answer) → (b ≡ 0 → ⊥) → Answers ok v x → Answers ok v (only-if (not (isZero (pos b))) x)
-by-other {b} ok v x n s = rw (only-if-so (not (isZero (pos b))) x (rw (not-zero b n))) s
+pub by-other : {b : ℕ} (ok : Bool) (v : ℤ) (x : Answer) → (b ≡ 0 → ⊥) → Answers ok v x → Answers ok v (only-if (not (eqZ (pos b) (pos 0))) x)
+by-other {b} ok v x n s = rw (only-if-so (not (eqZ (pos b) (pos 0))) x (rw (not-zero b n))) s

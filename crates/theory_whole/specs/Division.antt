@@ -1,8 +1,6 @@
 -- The Euclidean pair of divisions, whose remainder is never negative: `ediv`, `emod`. The pair that rounds towards zero is the kit's `quotZ`, `remZ`.
 use Prim.Native.Nat.{ℕ, suc, _-_, _/_, _%_}
 use lib.IntN.{ℤ, pos, negsuc, negℤ, natAbs}
-use lib.Dec.{eqb}
-use mathlib.Core.Bool.{Bool, false}
 
 infixl 7 _modulo_
 -- the remainder of z by m, from 0 up to m - 1
@@ -18,7 +16,3 @@ ediv (negsuc a) (negsuc b) = pos (suc (a / suc b))
 
 abbrev pub emod : ℤ → ℤ → ℤ
 emod a b = pos (a modulo natAbs b)
-
-abbrev pub isZero : ℤ → Bool
-isZero (pos a) = eqb a 0
-isZero (negsuc a) = false

@@ -5,8 +5,10 @@ ghost use Prim.Native.Nat.{_%_, _^_};
 ghost use lib.IntN.{pos, _*ℤ_};
 ghost use lib.Signed.{quotZ, remZ};
 ghost use Rattle.theory_whole.specs.Kind.{unsigned};
-ghost use Rattle.theory_whole.specs.Division.{ediv, emod, isZero};
-ghost use Rattle.theory_whole.specs.Fit.{wrap, refuse, divided, only-if, Answers};
+ghost use Rattle.theory_whole.specs.Division.{ediv, emod};
+ghost use Rattle.theory_whole.specs.Order.{eqZ};
+ghost use Rattle.theory_answers.specs.Answer.{only-if, Answers};
+ghost use Rattle.theory_whole.specs.Fit.{wrap, refuse, divided};
 ghost use Rattle.theory_whole.specs.Multiple.{isMultiple, nextMultiple};
 use unsigned64::Checked;
 
@@ -59,7 +61,7 @@ pub fn checked_rem_euclid(a: u64, b: u64) -> Checked
 // ---- multiples
 
 pub fn checked_next_multiple_of(a: u64, b: u64) -> Checked
-    ensures { λ r. ⌜ Answers (r .ok) (pos (r .value)) (only-if (not (isZero (pos b))) (refuse (unsigned 64) (pos (nextMultiple a b)))) ⌝ }
+    ensures { λ r. ⌜ Answers (r .ok) (pos (r .value)) (only-if (not (eqZ (pos b) (pos 0))) (refuse (unsigned 64) (pos (nextMultiple a b)))) ⌝ }
 {
     if b == 0 {
         return Checked {

@@ -2,7 +2,8 @@
 ghost use mathlib.Core.Path.{_≡_};
 ghost use lib.IntN.{ℤ, pos, _+ℤ_, _-ℤ_, _*ℤ_};
 ghost use Rattle.theory_whole.specs.Kind.{unsigned};
-ghost use Rattle.theory_whole.specs.Fit.{wrap, clamp, refuse, Answers};
+ghost use Rattle.theory_answers.specs.Answer.{Answers};
+ghost use Rattle.theory_whole.specs.Fit.{wrap, clamp, refuse};
 ghost use Rattle.theory_whole.specs.Order.{order};
 use theory_whole::Ordering;
 

@@ -3,7 +3,7 @@ use Prim.Native.Nat.{_-_, _≤_}
 use native.Mathlib.Omega.{arith}
 use borrow.Author.Tests.{not-true, not-false}
 use Rattle.theory_whole.specs.Kind.{unsigned}
-use Rattle.theory_decimal.proofs.Reading.{SoFar, past-the-end, no-text, nothing-yet, so-far-next, so-far-stuck, so-far-all}
+use Rattle.theory_decimal.proofs.Reading.{SoFar, past-the-end, no-text, no-natural, nothing-yet, so-far-next, so-far-stuck, so-far-all}
 use Rattle.decimal_read.proofs.read_u64.Statement.{statement}
 use Rattle.decimal_read.proofs.read_u64.Tie as tie
 
@@ -14,10 +14,10 @@ abbrev μ-loop : tie.MeasureT-loop
 μ-loop s from to n₀ i₀ n i = to - i
 
 returns : tie.Need-returns Inv-loop μ-loop
-returns c = past-the-end (unsigned 64) _ _ _ (c .if1 .taken)
+returns c = past-the-end _ (unsigned 64) _ _ _ (c .if1 .taken)
 
 returns-2 : tie.Need-returns-2 Inv-loop μ-loop
-returns-2 c = no-text (unsigned 64) _ _ _ (omega arith) (c .if2 .taken)
+returns-2 c = no-text _ (unsigned 64) _ _ _ no-natural (omega arith) (c .if2 .taken)
 
 loop-holds : tie.Need-loop-holds Inv-loop μ-loop
 loop-holds c = (nothing-yet 64 _ _, omega arith)

@@ -2,15 +2,16 @@ use borrow.Author.Needs.{needs}
 use native.Mathlib.Omega.{arith}
 use borrow.Author.Tests.{not-true, not-false}
 use Rattle.theory_whole.specs.Kind.{signed}
-use Rattle.theory_decimal.proofs.Signs.{whole-past-the-end, no-whole-text, negative-refused, negative-read, positive-refused, positive-read}
+use Rattle.theory_decimal.proofs.Reading.{past-the-end, no-text, no-whole}
+use Rattle.theory_decimal.proofs.Signs.{negative-refused, negative-read, positive-refused, positive-read}
 use Rattle.decimal_read_signed.proofs.read_i8.Statement.{statement}
 use Rattle.decimal_read_signed.proofs.read_i8.Tie as tie
 
 returns : tie.Need-returns
-returns c = whole-past-the-end (signed 8) _ _ _ (c .if1 .taken)
+returns c = past-the-end _ (signed 8) _ _ _ (c .if1 .taken)
 
 returns-2 : tie.Need-returns-2
-returns-2 c = no-whole-text (signed 8) _ _ _ (omega arith) (c .if2 .taken)
+returns-2 c = no-text _ (signed 8) _ _ _ no-whole (omega arith) (c .if2 .taken)
 
 returns-3 : tie.Need-returns-3
 returns-3 c =

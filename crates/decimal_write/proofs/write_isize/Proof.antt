@@ -8,7 +8,7 @@ use Rattle.decimal_write.proofs.write_isize.Tie as tie
 returns : tie.Need-returns
 returns c =
     let start = c .before .before .before .before .before .before in
-    shown-by-sign _ _ _ (toZ-ofZ {w = w64} (start .fits .x)) (c .before .before .before .magnitude .ensures) (c .before .before .write-with-sign .ensures)
+    shown-by-sign _ _ _ _ (toZ-ofZ {w = w64} (start .fits .x)) (c .before .before .before .magnitude .ensures) (c .before .before .write-with-sign .ensures)
 
 pub write-isize-spec : {M : Type 1} → statement M
 write-isize-spec = tie.close (tie.spec (λ c κs. search needs) (λ c κs. search needs) (λ c. search needs) returns)

@@ -2,7 +2,7 @@ use borrow.Author.Needs.{needs}
 use native.Mathlib.Omega.{arith}
 use borrow.Author.Tests.{not-true, not-false}
 use lib.ListN.{length-set}
-use Rattle.theory_decimal.proofs.Showing.{figures-hold, signed-no-room, signed-shown, signed-length}
+use Rattle.theory_decimal.proofs.Showing.{figures-hold, with-sign-no-room, with-sign-shown, with-sign-length}
 use Rattle.decimal_write.proofs.write_with_sign.Statement.{statement}
 use Rattle.decimal_write.proofs.write_with_sign.Tie as tie
 
@@ -15,12 +15,12 @@ returns c =
 returns-2 : tie.Need-returns-2
 returns-2 c =
     let y = not-false (c .before .before .before .before .args .negative) (c .before .before .if1 .left) in
-    rw y (signed-no-room _ _ _ _ (c .before .places .ensures .0) (omega arith))
+    rw y (with-sign-no-room _ _ _ _ (c .before .places .ensures .0) (omega arith))
 
 returns-3 : tie.Need-returns-3
 returns-3 c =
     let y = not-false (c .before .before .before .before .before .args .negative) (c .before .before .before .if1 .left) in
-    rw y (signed-no-room _ _ _ _ (c .before .before .places .ensures .0) (omega arith))
+    rw y (with-sign-no-room _ _ _ _ (c .before .before .places .ensures .0) (omega arith))
 
 put-requires : tie.Need-put-requires
 put-requires c κs = (simp length-set (omega arith), figures-hold _ _ (c .before .before .before .places .ensures .0))
@@ -28,12 +28,12 @@ put-requires c κs = (simp length-set (omega arith), figures-hold _ _ (c .before
 same-length-2 : tie.Need-same-length-2
 same-length-2 c =
     let start = c .before .before .before .before .before .before .before .before .before .args in
-    signed-length (start .out .now) (start .at) _ _ (c .before .before .before .before .before .before .places .ensures .0) (omega arith) _ (c .before .before .put .ensures)
+    with-sign-length (start .out .now) (start .at) _ _ (c .before .before .before .before .before .before .places .ensures .0) (omega arith) _ (c .before .before .put .ensures)
 
 returns-4 : tie.Need-returns-4
 returns-4 c =
     let y = not-false (c .before .before .before .before .before .before .before .before .before .args .negative) (c .before .before .before .before .before .before .before .if1 .left) in
-    rw y (signed-shown _ _ _ _ (c .before .before .before .before .before .before .places .ensures .0) (omega arith) _ (c .before .before .put .ensures))
+    rw y (with-sign-shown _ _ _ _ (c .before .before .before .before .before .before .places .ensures .0) (omega arith) _ (c .before .before .put .ensures))
 
 pub write-with-sign-spec : {M : Type 1} → statement M
 write-with-sign-spec =

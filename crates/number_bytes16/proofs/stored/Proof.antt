@@ -1,7 +1,7 @@
 use borrow.Author.Needs.{needs}
 use native.Mathlib.Omega.{arith}
 use lib.ListN.{length-set}
-use Rattle.theory_digits.proofs.Writing.{writes, writes-nothing}
+use Rattle.theory_lists.proofs.Stored.{writes, writes-nothing}
 use Rattle.number_bytes16.proofs.stored.Statement.{statement}
 use Rattle.number_bytes16.proofs.stored.Tie as tie
 

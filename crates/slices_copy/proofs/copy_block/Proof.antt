@@ -3,7 +3,7 @@ use native.Mathlib.Omega.{arith}
 use mathlib.Core.Path.{sym, ap, _∙_}
 use lib.ListN.{length}
 use Rattle.theory_lists.specs.Written.{written}
-use Rattle.theory_lists.proofs.Says.{ok-where}
+use Rattle.theory_answers.proofs.Says.{ok-where}
 use Rattle.slices_copy.proofs.copy_block.Statement.{statement}
 use Rattle.slices_copy.proofs.copy_block.Tie as tie
 

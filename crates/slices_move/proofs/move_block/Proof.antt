@@ -3,7 +3,7 @@ use native.Mathlib.Omega.{arith}
 use mathlib.Core.Path.{refl, ap, _∙_}
 use Prim.Native.Nat.{_-_}
 use Rattle.theory_lists.specs.Written.{written}
-use Rattle.theory_lists.proofs.Says.{ok-where}
+use Rattle.theory_answers.proofs.Says.{ok-where}
 use Rattle.theory_lists.proofs.Lent.{held-part, length-held}
 use Rattle.slices_move.proofs.move_block.Statement.{statement}
 use Rattle.slices_move.proofs.move_block.Tie as tie

@@ -6,7 +6,7 @@ use Prim.Native.Nat.{ℕ, _+_, _-_, _≤_}
 use lib.ListN.{length}
 use Rattle.theory_lists.specs.Part.{part}
 use Rattle.theory_lists.specs.Written.{written}
-use Rattle.theory_lists.proofs.Says.{ok-where}
+use Rattle.theory_answers.proofs.Says.{ok-where}
 use Rattle.theory_lists.proofs.Lent.{held-part, length-held}
 use Rattle.theory_lists.proofs.Moved.{copied-none, copied-down, moved-down}
 use Rattle.slices_move.proofs.move_from_back.Statement.{statement}

@@ -2,7 +2,7 @@ use borrow.Author.Needs.{needs}
 use native.Mathlib.Omega.{arith}
 use lib.ListN.{replicate}
 use Rattle.theory_lists.proofs.Lent.{written-front}
-use Rattle.theory_lists.proofs.Says.{ok-where, refused-where}
+use Rattle.theory_answers.proofs.Says.{ok-where, refused-where}
 use Rattle.slices_mut.proofs.held.Statement.{statement}
 use Rattle.slices_mut.proofs.held.Tie as tie
 

@@ -6,7 +6,7 @@ use Prim.Native.Nat.{ℕ, _+_, _-_}
 use lib.ListN.{take, length-reverse}
 use Rattle.theory_lists.specs.Part.{part}
 use Rattle.theory_lists.specs.Written.{written}
-use Rattle.theory_lists.proofs.Says.{ok-where}
+use Rattle.theory_answers.proofs.Says.{ok-where}
 use Rattle.theory_lists.proofs.Lent.{held-part, length-held}
 use Rattle.slices_reverse.proofs.exchange.Statement.{statement}
 use Rattle.slices_reverse.proofs.exchange.Tie as tie

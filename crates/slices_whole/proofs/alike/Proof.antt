@@ -4,7 +4,7 @@ use mathlib.Core.Path.{_≡_}
 use Prim.Native.Nat.{_-_, _≤_}
 use lib.ListN.{length, take}
 use Rattle.theory_lists.proofs.Tests.{same-next, same-whole}
-use Rattle.theory_lists.specs.Says.{Says}
+use Rattle.theory_answers.specs.Says.{Says}
 use Rattle.slices_whole.proofs.alike.Statement.{statement}
 use Rattle.slices_whole.proofs.alike.Tie as tie
 

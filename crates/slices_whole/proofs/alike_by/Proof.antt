@@ -6,7 +6,7 @@ use mathlib.Core.Path.{_≡_, ap}
 use Prim.Native.Nat.{_-_, _+_, ℕ, _≤_}
 use lib.ListN.{length, take}
 use Rattle.theory_lists.specs.Part.{part}
-use Rattle.theory_lists.proofs.Says.{says-true, says-false}
+use Rattle.theory_answers.proofs.Says.{says-true, says-false}
 use Rattle.theory_lists.proofs.Tests.{same-block, same-less, says-same-rest}
 use Rattle.slices_whole.proofs.alike_by.Statement.{statement}
 use Rattle.slices_whole.proofs.alike_by.Tie as tie

@@ -3,7 +3,7 @@ use native.Mathlib.Omega.{arith}
 use Prim.Native.Nat.{_-_, _+_, _≤_}
 use lib.ListN.{length, take}
 use Rattle.theory_lists.specs.Part.{Has}
-use Rattle.theory_lists.proofs.Says.{says-true, says-false}
+use Rattle.theory_answers.proofs.Says.{says-true, says-false}
 use Rattle.theory_lists.proofs.Tests.{has-in-part, not-in-block, not-in-less, has-rest}
 use Rattle.slices_whole.proofs.stands_by.Statement.{statement}
 use Rattle.slices_whole.proofs.stands_by.Tie as tie

@@ -2,7 +2,7 @@ use borrow.Author.Needs.{needs}
 use native.Mathlib.Omega.{arith}
 use Prim.Native.Nat.{_-_, _≤_}
 use lib.ListN.{length, take}
-use Rattle.theory_lists.specs.Says.{Says}
+use Rattle.theory_answers.specs.Says.{Says}
 use Rattle.theory_lists.specs.Part.{Has}
 use Rattle.theory_lists.proofs.Tests.{has-next, has-whole}
 use Rattle.slices_whole.proofs.stands_in.Statement.{statement}

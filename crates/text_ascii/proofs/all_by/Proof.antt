@@ -2,40 +2,42 @@ use borrow.Author.Needs.{needs}
 use borrow.Author.Tests.{not-true, not-false}
 use native.Mathlib.Omega.{arith}
 use Prim.Native.Nat.{_-_, _+_, _≤_}
-use lib.ListN.{length}
-use Rattle.theory_lists.proofs.Says.{says-true, says-false}
-use Rattle.theory_text.specs.Ascii.{AsciiIn}
-use Rattle.theory_text.proofs.Ascii.{ascii-none, ascii-join, ascii-of-part, ascii-in-part, says-ascii-rest}
+use lib.ListN.{length, take}
+use Rattle.theory_answers.proofs.Says.{says-true, says-false}
+use Rattle.theory_text.specs.Ascii.{Ascii}
+use Rattle.theory_lists.specs.Bounds.{AllBelow}
+use Rattle.theory_lists.proofs.Below.{part-below, below-block, says-below-rest}
 use Rattle.text_ascii.proofs.all_by.Statement.{statement}
 use Rattle.text_ascii.proofs.all_by.Tie as tie
 
 abbrev Inv-loop : tie.InvT-loop
-Inv-loop s size last i₀ i = (i ≤ length s) × AsciiIn s 0 i
+Inv-loop s size last i₀ i = (i ≤ length s) × Ascii (take i s)
 
 abbrev μ-loop : tie.MeasureT-loop
 μ-loop s size last i₀ i = length s - i
 
 loop-holds : tie.Need-loop-holds Inv-loop μ-loop
-loop-holds c = (omega arith, ascii-none (c .before .args .s .now) 0)
+unfolding AllBelow
+loop-holds c = (omega arith, tt)
 
 returns : tie.Need-returns Inv-loop μ-loop
 returns c =
     let l = c .before .before .before .before .loop in
     let a = c .before .before .before .before .before .before .args in
-    λ e. says-false (c .before .all .ensures) (not-true (c .before .all .result) (c .if1 .taken)) (ascii-of-part (a .s .now) (l .i) (l .i + a .size) e)
+    λ e. says-false (c .before .all .ensures) (not-true (c .before .all .result) (c .if1 .taken)) (part-below 0x80 (a .s .now) (l .i) (l .i + a .size) e)
 
 loop-again : tie.Need-loop-again Inv-loop μ-loop
 loop-again c =
     let l = c .before .before .before .before .loop in
     let a = c .before .before .before .before .before .before .args in
     let block = says-true (c .before .all .ensures) (not-false (c .before .all .result) (c .if1 .left)) in
-    (omega arith, ascii-join (a .s .now) 0 (l .i) (l .i + a .size) (l .inv .1) (ascii-in-part (a .s .now) (l .i) (l .i + a .size) (search needs) block))
+    (omega arith, below-block 0x80 (a .s .now) (l .i) (l .i + a .size) (omega arith) (l .inv .1) block)
 
 returns-2 : tie.Need-returns-2 Inv-loop μ-loop
 returns-2 c =
     let l = c .before .before .before .loop in
     let a = c .before .before .before .before .before .args in
-    says-ascii-rest (a .s .now) (c .all2 .result) (l .i) (length (a .s .now) - a .size) (omega arith) (omega arith) (l .inv .1) (c .all2 .ensures)
+    says-below-rest 0x80 (a .s .now) (c .all2 .result) (l .i) (length (a .s .now) - a .size) (omega arith) (l .inv .1) (c .all2 .ensures)
 
 pub all-by-spec : {M : Type 1} → statement M
 all-by-spec =

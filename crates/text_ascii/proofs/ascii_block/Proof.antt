@@ -1,10 +1,8 @@
 use borrow.Author.Needs.{needs}
 use native.Mathlib.Omega.{arith}
 use mathlib.Core.Path.{refl}
-use Prim.Native.Nat.{_+_}
 use Rattle.theory_whole.proofs.Cases.{never}
-use Rattle.theory_lists.proofs.Says.{says-true}
-use Rattle.theory_text.proofs.Ascii.{ascii-in-part}
+use Rattle.theory_answers.proofs.Says.{says-true}
 use Rattle.text_ascii.proofs.ascii_block.Statement.{statement}
 use Rattle.text_ascii.proofs.ascii_block.Tie as tie
 
@@ -15,9 +13,7 @@ returns-2 : tie.Need-returns-2
 returns-2 c = λ e. never e refl
 
 returns-3 : tie.Need-returns-3
-returns-3 c =
-    let a = c .before .before .before .before .before .args in
-    λ e. (omega arith, ascii-in-part (a .s .now) (a .from) (a .from + a .size) (search needs) (says-true (c .all .ensures) e))
+returns-3 c = λ e. (omega arith, says-true (c .all .ensures) e)
 
 pub ascii-block-spec : {M : Type 1} → statement M
 ascii-block-spec =

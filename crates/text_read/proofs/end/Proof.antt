@@ -1,6 +1,6 @@
 use borrow.Author.Needs.{needs}
 use mathlib.Core.Path.{sym, _∙_}
-use Rattle.theory_text.proofs.Answers.{end-empty, end-none, end-some}
+use Rattle.theory_text.proofs.ReadIs.{end-empty, end-none, end-some}
 use Rattle.text_read.proofs.end.Statement.{statement}
 use Rattle.text_read.proofs.end.Tie as tie
 

@@ -1,7 +1,7 @@
 use borrow.Author.Needs.{needs}
 use native.Mathlib.Omega.{arith}
 use mathlib.Core.Path.{refl, sym, _∙_}
-use Rattle.theory_text.proofs.Answers.{front-none, front-some}
+use Rattle.theory_text.proofs.ReadIs.{front-none, front-some}
 use Rattle.theory_text.proofs.Ascii.{first-ascii-at}
 use Rattle.theory_text.proofs.Steps.{first-within}
 use Rattle.text_read.proofs.front.Statement.{statement}

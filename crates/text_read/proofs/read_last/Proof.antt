@@ -1,5 +1,5 @@
 use borrow.Author.Needs.{needs}
-use Rattle.theory_text.proofs.Answers.{read-none, within-read}
+use Rattle.theory_text.proofs.ReadIs.{read-none, within-read}
 use native.Mathlib.Omega.{arith}
 use Rattle.text_read.proofs.read_last.Statement.{statement}
 use Rattle.text_read.proofs.read_last.Tie as tie

@@ -1,4 +1,4 @@
-use Rattle.theory_text.proofs.Rows.{row-00, row-c2, row-e0, row-e1, row-ed, row-ee, row-f0, row-f1, row-f4, between, beyond}
+use Rattle.theory_text.proofs.Rows.{row-00, row-c2, row-e0, row-e1, row-ed, row-ee, row-f0, row-f1, row-f4, gap, beyond}
 use Rattle.text_read.proofs.Tested.{leads}
 use native.Mathlib.Omega.{arith}
 use Rattle.text_read.proofs.row_of.Statement.{statement}
@@ -8,7 +8,7 @@ returns : tie.Need-returns
 returns c = leads (omega arith) (row-00 (c .if1 .taken))
 
 returns-2 : tie.Need-returns-2
-returns-2 c = leads (omega arith) (between (omega arith) (omega arith))
+returns-2 c = leads (omega arith) (gap (omega arith) (omega arith))
 
 returns-3 : tie.Need-returns-3
 returns-3 c = leads (omega arith) (row-c2 (omega arith) (omega arith))

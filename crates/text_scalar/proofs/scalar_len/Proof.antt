@@ -1,6 +1,6 @@
 use borrow.Author.Needs.{needs}
 use mathlib.Core.Path.{refl}
-use Rattle.theory_lists.proofs.Says.{says-true, says-false}
+use Rattle.theory_answers.proofs.Says.{says-true, says-false}
 use Rattle.text_scalar.proofs.scalar_len.Statement.{statement}
 use Rattle.text_scalar.proofs.scalar_len.Tie as tie
 

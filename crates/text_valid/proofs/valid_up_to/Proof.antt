@@ -1,6 +1,6 @@
 use borrow.Author.Needs.{needs}
 use mathlib.Core.Path.{sym}
-use Rattle.theory_lists.proofs.Says.{says-true}
+use Rattle.theory_answers.proofs.Says.{says-true}
 use Rattle.theory_text.proofs.Ascii.{ascii-valid}
 use Rattle.theory_text.proofs.Unique.{valid-all}
 use Rattle.text_valid.proofs.valid_up_to.Statement.{statement}

@@ -1,8 +1,7 @@
 use borrow.Author.Needs.{needs}
 use mathlib.Core.List.{[], _∷_}
-use native.Mathlib.Numerals.{add-one, add-two, add-three}
 use lib.ListN.{length-set}
-use Rattle.theory_text.proofs.Written.{sets-written}
+use Rattle.theory_lists.proofs.Stored.{stored-written}
 use native.Mathlib.Omega.{arith}
 use Rattle.text_write.proofs.put4.Statement.{statement}
 use Rattle.text_write.proofs.put4.Tie as tie
@@ -17,7 +16,7 @@ slice-write-out-4 : tie.Need-slice-write-out-4
 slice-write-out-4 c = simp length-set (omega arith)
 
 returns : tie.Need-returns
-returns c = let a = c .args in simp (add-one, add-two, add-three) (sets-written (a .a ∷ a .b ∷ a .c ∷ a .d ∷ []) (a .out .now) (a .at) (omega arith))
+returns c = let a = c .args in stored-written (a .out .now) (a .at) (a .a ∷ a .b ∷ a .c ∷ a .d ∷ []) (omega arith)
 
 pub put4-spec : {M : Type 1} → statement M
 put4-spec = tie.close (tie.spec (λ c. search needs) (λ c. search needs) slice-write-out-2 (λ c. search needs) slice-write-out-3 (λ c. search needs) slice-write-out-4 (λ c. search needs) returns)

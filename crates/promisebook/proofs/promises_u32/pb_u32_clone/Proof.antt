@@ -1,9 +1,0 @@
-use Rattle.promisebook.proofs.Compare.{clone-kept}
-use Rattle.promisebook.proofs.promises_u32.pb_u32_clone.Statement.{statement}
-use Rattle.promisebook.proofs.promises_u32.pb_u32_clone.Tie as tie
-
-returns : tie.Need-returns
-returns c = clone-kept _
-
-pub pb-u32-clone-spec : {M : Type 1} → statement M
-pb-u32-clone-spec = tie.close (tie.spec returns)

@@ -1,9 +1,0 @@
-use Rattle.promisebook.proofs.Compare.{clone-kept}
-use Rattle.promisebook.proofs.promises_u8.pb_u8_clone.Statement.{statement}
-use Rattle.promisebook.proofs.promises_u8.pb_u8_clone.Tie as tie
-
-returns : tie.Need-returns
-returns c = clone-kept _
-
-pub pb-u8-clone-spec : {M : Type 1} → statement M
-pb-u8-clone-spec = tie.close (tie.spec returns)

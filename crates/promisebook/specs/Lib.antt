@@ -1,7 +1,0 @@
-pub mod Unsigned
-pub mod Signed
-pub mod Compare
-pub mod Zeros
-pub mod Bytes
-pub mod Slices
-pub mod Text

@@ -1,0 +1,13 @@
+use borrow.Author.Needs.{needs}
+use mir.Facts.{toZ-ofZ}
+use Rattle.vstd_integers.proofs.Compare.{eq-kept}
+use Rattle.promisebook_i32.proofs.pb_i32_eq.Statement.{statement}
+use Rattle.promisebook_i32.proofs.pb_i32_eq.Tie as tie
+
+returns : tie.Need-returns
+returns c =
+    let s = c .before .before in
+    rw (c .before .compare .ensures, toZ-ofZ (s .fits .x), toZ-ofZ (s .fits .y), eq-kept (s .args .x) (s .args .y)) at (c .is-eq .ensures)
+
+pub pb-i32-eq-spec : {M : Type 1} → statement M
+pb-i32-eq-spec = tie.close (tie.spec (λ c κs. search needs) (λ c κs. search needs) returns)

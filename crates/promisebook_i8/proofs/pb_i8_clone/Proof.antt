@@ -1,0 +1,11 @@
+use mathlib.Core.Path.{_∙_}
+use mir.Facts.{toZ-ofZ}
+use Rattle.vstd_integers.proofs.Compare.{clone-kept}
+use Rattle.promisebook_i8.proofs.pb_i8_clone.Statement.{statement}
+use Rattle.promisebook_i8.proofs.pb_i8_clone.Tie as tie
+
+returns : tie.Need-returns
+returns c = toZ-ofZ (c .fits .x) ∙ clone-kept _
+
+pub pb-i8-clone-spec : {M : Type 1} → statement M
+pb-i8-clone-spec = tie.close (tie.spec returns)

@@ -1,0 +1,17 @@
+use borrow.Author.Needs.{needs}
+use mathlib.Core.Path.{_∙_}
+use mir.Syntax.{w8}
+use mir.Facts.{toZ-ofZ}
+use Rattle.theory_machine.proofs.Bits.{some-bits, in-signed, read-back}
+use Rattle.vstd_integers.proofs.Signed.{wrapping-mul-kept}
+use Rattle.promisebook_i8.proofs.pb_i8_wrapping_mul.Statement.{statement}
+use Rattle.promisebook_i8.proofs.pb_i8_wrapping_mul.Tie as tie
+
+returns : tie.Need-returns
+returns c =
+    let f = c .before .fits in
+    let e = rw (toZ-ofZ (f .x), toZ-ofZ (f .y)) at (c .wrapping-mul .ensures) in
+    read-back w8 _ e ∙ e ∙ wrapping-mul-kept 8 (some-bits w8) (in-signed w8 (f .x)) (in-signed w8 (f .y))
+
+pub pb-i8-wrapping-mul-spec : {M : Type 1} → statement M
+pb-i8-wrapping-mul-spec = tie.close (tie.spec (λ c κs. search needs) returns)

@@ -1,0 +1,13 @@
+use borrow.Author.Needs.{needs}
+use lib.IntN.{pos}
+use Rattle.vstd_integers.proofs.Compare.{le-kept}
+use Rattle.promisebook_u16.proofs.pb_u16_le.Statement.{statement}
+use Rattle.promisebook_u16.proofs.pb_u16_le.Tie as tie
+
+returns : tie.Need-returns
+returns c =
+    let a = c .before .before .args in
+    rw (c .before .compare .ensures, le-kept (pos (a .x)) (pos (a .y))) at (c .is-le .ensures)
+
+pub pb-u16-le-spec : {M : Type 1} → statement M
+pb-u16-le-spec = tie.close (tie.spec (λ c κs. search needs) (λ c κs. search needs) returns)

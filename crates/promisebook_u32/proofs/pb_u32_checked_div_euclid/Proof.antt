@@ -1,0 +1,10 @@
+use borrow.Author.Needs.{needs}
+use Rattle.vstd_integers.proofs.Unsigned.{checked-div-euclid-kept}
+use Rattle.promisebook_u32.proofs.pb_u32_checked_div_euclid.Statement.{statement}
+use Rattle.promisebook_u32.proofs.pb_u32_checked_div_euclid.Tie as tie
+
+returns : tie.Need-returns
+returns c = let f = c .before .fits in rw (checked-div-euclid-kept 32 (f .x .fits) (f .y .fits)) at (c .checked-div-euclid .ensures)
+
+pub pb-u32-checked-div-euclid-spec : {M : Type 1} → statement M
+pb-u32-checked-div-euclid-spec = tie.close (tie.spec (λ c κs. search needs) returns)

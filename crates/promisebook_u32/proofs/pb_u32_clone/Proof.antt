@@ -1,0 +1,9 @@
+use Rattle.vstd_integers.proofs.Compare.{clone-kept}
+use Rattle.promisebook_u32.proofs.pb_u32_clone.Statement.{statement}
+use Rattle.promisebook_u32.proofs.pb_u32_clone.Tie as tie
+
+returns : tie.Need-returns
+returns c = clone-kept _
+
+pub pb-u32-clone-spec : {M : Type 1} → statement M
+pb-u32-clone-spec = tie.close (tie.spec returns)

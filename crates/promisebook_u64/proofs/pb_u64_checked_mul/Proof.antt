@@ -1,0 +1,10 @@
+use borrow.Author.Needs.{needs}
+use Rattle.vstd_integers.proofs.Unsigned.{checked-mul-kept}
+use Rattle.promisebook_u64.proofs.pb_u64_checked_mul.Statement.{statement}
+use Rattle.promisebook_u64.proofs.pb_u64_checked_mul.Tie as tie
+
+returns : tie.Need-returns
+returns c = let f = c .before .fits in rw (checked-mul-kept 64 (f .x .fits) (f .y .fits)) at (c .checked-mul .ensures)
+
+pub pb-u64-checked-mul-spec : {M : Type 1} → statement M
+pb-u64-checked-mul-spec = tie.close (tie.spec (λ c κs. search needs) returns)

@@ -1,0 +1,10 @@
+use borrow.Author.Needs.{needs}
+use Rattle.vstd_integers.proofs.Unsigned.{checked-rem-euclid-kept}
+use Rattle.promisebook_u64.proofs.pb_u64_checked_rem_euclid.Statement.{statement}
+use Rattle.promisebook_u64.proofs.pb_u64_checked_rem_euclid.Tie as tie
+
+returns : tie.Need-returns
+returns c = let f = c .before .fits in rw (checked-rem-euclid-kept 64 (f .x .fits) (f .y .fits)) at (c .checked-rem-euclid .ensures)
+
+pub pb-u64-checked-rem-euclid-spec : {M : Type 1} → statement M
+pb-u64-checked-rem-euclid-spec = tie.close (tie.spec (λ c κs. search needs) returns)

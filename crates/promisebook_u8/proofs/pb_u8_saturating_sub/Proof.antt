@@ -1,0 +1,11 @@
+use borrow.Author.Needs.{needs}
+use mathlib.Core.Path.{_∙_}
+use Rattle.vstd_integers.proofs.Unsigned.{saturating-sub-kept}
+use Rattle.promisebook_u8.proofs.pb_u8_saturating_sub.Statement.{statement}
+use Rattle.promisebook_u8.proofs.pb_u8_saturating_sub.Tie as tie
+
+returns : tie.Need-returns
+returns c = let f = c .before .fits in c .saturating-sub .ensures ∙ saturating-sub-kept 8 (f .x .fits) (f .y .fits)
+
+pub pb-u8-saturating-sub-spec : {M : Type 1} → statement M
+pb-u8-saturating-sub-spec = tie.close (tie.spec (λ c κs. search needs) returns)

@@ -1,0 +1,11 @@
+use borrow.Author.Needs.{needs}
+use mathlib.Core.Path.{_∙_}
+use Rattle.vstd_integers.proofs.Unsigned.{saturating-mul-kept}
+use Rattle.promisebook_usize.proofs.pb_usize_saturating_mul.Statement.{statement}
+use Rattle.promisebook_usize.proofs.pb_usize_saturating_mul.Tie as tie
+
+returns : tie.Need-returns
+returns c = let f = c .before .fits in c .saturating-mul .ensures ∙ saturating-mul-kept 64 (f .x .fits) (f .y .fits)
+
+pub pb-usize-saturating-mul-spec : {M : Type 1} → statement M
+pb-usize-saturating-mul-spec = tie.close (tie.spec (λ c κs. search needs) returns)

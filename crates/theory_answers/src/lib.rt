@@ -1,0 +1,1 @@
+// How a function answers that tells whether, or may refuse: the definitions stand in specs/, their laws in proofs/. No code.

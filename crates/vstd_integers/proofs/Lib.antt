@@ -1,0 +1,6 @@
+pub mod Worked
+pub mod Bounds
+pub mod Unsigned
+pub mod Signed
+pub mod Compare
+pub mod Pinned

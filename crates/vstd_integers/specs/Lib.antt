@@ -1,0 +1,3 @@
+pub mod Compare
+pub mod Signed
+pub mod Unsigned
