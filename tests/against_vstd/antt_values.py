@@ -11,7 +11,7 @@ from antt_text import module_of
 from faults import Fault, NotUnderstood
 
 THEIRS = re.compile(r"Rattle·(\w+?)(?:·specs)?\.specs\.(.+)$")
-RESTATING = ("promisebook", "vstd_*")
+RESTATING = "vstd_*"
 REMEMBERED = 1 << 12
 
 
@@ -36,11 +36,10 @@ class Definitions:
     def restated(self, names):
         """The modules of these names, of those that are there: all in one of the crates that restate vstd."""
         if names not in self.places:
-            patterns = [os.path.join(self.root, "crates", crate, "specs", name + ".antt") for crate in RESTATING for name in names]
-            self.places[names] = [os.path.relpath(path, self.root) for pattern in patterns for path in glob.glob(pattern)]
+            found = [path for name in names for path in glob.glob(os.path.join(self.root, "crates", RESTATING, "specs", name + ".antt"))]
+            self.places[names] = [os.path.relpath(path, self.root) for path in found]
             if len({os.path.dirname(path) for path in self.places[names]}) != 1:
-                found = " ".join(self.places[names]) or "nowhere"
-                raise Fault("%s.antt should be in the specs of one of the crates %s, and is: %s" % (" or ".join(names), ", ".join(RESTATING), found))
+                raise Fault("%s.antt should be in the specs of one crate %s, and is: %s" % (" or ".join(names), RESTATING, " ".join(found) or "nowhere"))
         return [self.module(path) for path in self.places[names]]
 
     def module(self, path):

@@ -22,10 +22,9 @@ LEFT_OUT = (
     (re.compile(r" group_\w+$"), "a list of lemmas, each of which is an item of its own"),
 )
 
-# Files beside these in the same crates, and definitions in these, that restate no item.
+# Files beside these in the same crates, and definitions in these, that restate no item. vstd_slices is of files that are not among the six.
 FILES_LEFT_OUT = {
     "Lib": "names the others",
-    "Slices": "of files that are not among the six",
     "Promises": "what the exports promise, made of what is restated; they are asked",
 }
 WORDS_OF_OUR_OWN = {
