@@ -51,8 +51,8 @@ class Questions:
         if len(said) != len(self.asked):
             raise Fault("%s gave %d answers to %d questions" % (self.command[0], len(said), len(self.asked)))
         self.differing += differing(self.asked, said, self.right)
-        if len(self.right) > 1 and not differing(self.asked, said[1:] + said[:1], self.right):
-            raise Fault("answers that are moved by a line are not found out")
+        if not self.count and not differing(self.asked, ["another answer"] + said[1:], self.right):
+            raise Fault("a wrong answer is not found out")
         self.count += len(self.asked)
         self.asked, self.right = [], []
 
