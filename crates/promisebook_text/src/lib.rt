@@ -1,20 +1,13 @@
-// What vstd states of text, kept by running code: each function's contract is vstd's recursive definition (specs/Text.antt), and its body a call of ours.
-ghost use mathlib.Core.Path.{_≡_};
-ghost use mathlib.Core.Bool.{true};
-ghost use Prim.Native.Nat.{_+_, _≤_, _<_};
-ghost use lib.ListN.{length, take, drop};
-ghost use Rattle.theory_answers.specs.Says.{Says};
-ghost use Rattle.theory_lists.specs.Part.{part, Within};
-ghost use Rattle.theory_lists.specs.Written.{written};
-ghost use Rattle.theory_text.specs.Reading.{validTo};
-ghost use Rattle.vstd_text.specs.Text.{is-scalar, encode-scalar, is-white-space, Valid-first-scalar, decode-first-scalar, length-of-first-scalar, Valid-utf8, decode-utf8, decode-last-scalar, length-of-last-scalar, Is-char-boundary, Is-ascii-chars};
+// What vstd states of text, kept by running code: each function's contract is its promise in vstd's terms (vstd_text/specs/Promises.antt), which fixes the
+// answer and what is left in the slice for all arguments; its body is a call of ours.
+ghost use Rattle.vstd_text.specs.Promises as promise;
 
 // ---- one scalar value
 
 // char::len_utf8
 #[no_mangle]
 pub extern "C" fn pb_text_scalar_len(c: u32) -> text_scalar::Length
-    ensures { λ r. ⌜ (is-scalar c ≡ true → (r .ok ≡ true) × (r .value ≡ length (encode-scalar c))) ⌝ }
+    ensures { λ r. ⌜ promise.ScalarLen (r .ok) (r .value) c ⌝ }
 {
     text_scalar::scalar_len(c)
 }
@@ -22,14 +15,14 @@ pub extern "C" fn pb_text_scalar_len(c: u32) -> text_scalar::Length
 // char::is_whitespace
 #[no_mangle]
 pub extern "C" fn pb_text_is_white_space(c: u32) -> bool
-    ensures { λ r. ⌜ r ≡ is-white-space c ⌝ }
+    ensures { λ r. ⌜ promise.IsWhiteSpace r c ⌝ }
 {
     text_scalar::is_white_space(c)
 }
 
 #[no_mangle]
 pub extern "C" fn pb_text_write(out: &mut [u8], at: usize, c: u32) -> text_scalar::Length
-    ensures { λ r. ⌜ (is-scalar c ≡ true → at + length (encode-scalar c) ≤ length (now (out .entry)) → (r .ok ≡ true) × (r .value ≡ length (encode-scalar c)) × (now (out .exit) ≡ written (now (out .entry)) at (encode-scalar c))) ⌝ }
+    ensures { λ r. ⌜ promise.Write (r .ok) (r .value) (now (out .entry)) (now (out .exit)) at c ⌝ }
 {
     text_write::write(out, at, c)
 }
@@ -38,14 +31,14 @@ pub extern "C" fn pb_text_write(out: &mut [u8], at: usize, c: u32) -> text_scala
 
 #[no_mangle]
 pub extern "C" fn pb_text_read_first(s: &[u8], from: usize, to: usize) -> text_read::Read
-    ensures { λ r. ⌜ (Within from to (now (s .entry)) → Valid-first-scalar (part from to (now (s .entry))) → (r .ok ≡ true) × (r .value ≡ decode-first-scalar (part from to (now (s .entry)))) × (r .length ≡ length-of-first-scalar (part from to (now (s .entry))))) ⌝ }
+    ensures { λ r. ⌜ promise.ReadFirst (r .ok) (r .value) (r .length) (now (s .entry)) from to ⌝ }
 {
     text_read::read_first(s, from, to)
 }
 
 #[no_mangle]
 pub extern "C" fn pb_text_read_last(s: &[u8], from: usize, to: usize) -> text_read::Read
-    ensures { λ r. ⌜ (Within from to (now (s .entry)) → Valid-utf8 (part from to (now (s .entry))) → from < to → (r .ok ≡ true) × (r .value ≡ decode-last-scalar (part from to (now (s .entry)))) × (r .length ≡ length-of-last-scalar (part from to (now (s .entry))))) ⌝ }
+    ensures { λ r. ⌜ promise.ReadLast (r .ok) (r .value) (r .length) (now (s .entry)) from to ⌝ }
 {
     text_read::read_last(s, from, to)
 }
@@ -54,21 +47,21 @@ pub extern "C" fn pb_text_read_last(s: &[u8], from: usize, to: usize) -> text_re
 
 #[no_mangle]
 pub extern "C" fn pb_text_valid(s: &[u8]) -> bool
-    ensures { λ r. ⌜ Says r (Valid-utf8 (now (s .entry))) ⌝ }
+    ensures { λ r. ⌜ promise.Valid r (now (s .entry)) ⌝ }
 {
     text_valid::valid(s)
 }
 
 #[no_mangle]
 pub extern "C" fn pb_text_count(s: &[u8]) -> text_valid::Counted
-    ensures { λ r. ⌜ (Valid-utf8 (now (s .entry)) → (r .ok ≡ true) × (r .value ≡ length (decode-utf8 (now (s .entry))))) ⌝ }
+    ensures { λ r. ⌜ promise.Count (r .ok) (r .value) (now (s .entry)) ⌝ }
 {
     text_valid::count(s)
 }
 
 #[no_mangle]
 pub extern "C" fn pb_text_is_boundary(s: &[u8], at: usize) -> text_valid::Tested
-    ensures { λ r. ⌜ (Valid-utf8 (now (s .entry)) → (r .ok ≡ true) × Says (r .value) (Is-char-boundary (now (s .entry)) at)) ⌝ }
+    ensures { λ r. ⌜ promise.IsBoundary (r .ok) (r .value) (now (s .entry)) at ⌝ }
 {
     text_valid::is_boundary(s, at)
 }
@@ -76,14 +69,14 @@ pub extern "C" fn pb_text_is_boundary(s: &[u8], at: usize) -> text_valid::Tested
 // Both sides of a boundary are valid.
 #[no_mangle]
 pub extern "C" fn pb_text_split_at(s: &[u8], at: usize) -> text_valid::Split
-    ensures { λ r. ⌜ (Valid-utf8 (now (s .entry)) → Is-char-boundary (now (s .entry)) at → (r .ok ≡ true) × (r .middle ≡ at) × Valid-utf8 (take (r .middle) (now (s .entry))) × Valid-utf8 (drop (r .middle) (now (s .entry)))) ⌝ }
+    ensures { λ r. ⌜ promise.SplitAt (r .ok) (r .middle) (r .end) (now (s .entry)) at ⌝ }
 {
     text_valid::split_at(s, at)
 }
 
 #[no_mangle]
 pub extern "C" fn pb_text_is_ascii(s: &[u8]) -> bool
-    ensures { λ r. ⌜ Says r (Is-ascii-chars (now (s .entry))) ⌝ }
+    ensures { λ r. ⌜ promise.IsAscii r (now (s .entry)) ⌝ }
 {
     text_ascii::is_ascii(s)
 }
@@ -93,7 +86,7 @@ pub extern "C" fn pb_text_is_ascii(s: &[u8]) -> bool
 // How far the text is valid.
 #[no_mangle]
 pub extern "C" fn pb_text_valid_up_to(s: &[u8]) -> usize
-    ensures { λ r. ⌜ r ≡ validTo (now (s .entry)) ⌝ }
+    ensures { λ r. ⌜ promise.ValidUpTo r (now (s .entry)) ⌝ }
 {
     text_valid::valid_up_to(s)
 }

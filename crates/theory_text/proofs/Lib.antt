@@ -12,7 +12,6 @@ pub mod Ends
 pub mod Ascii
 pub mod OneSequence
 pub mod Counts
-pub mod ByteRanges
 pub mod Padded
 pub mod WhiteSpace
 pub mod ReadIs

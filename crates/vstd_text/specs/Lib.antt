@@ -1,1 +1,5 @@
-pub mod Text
+pub mod Decoding
+pub mod Encoding
+pub mod Places
+pub mod Characters
+pub mod Promises

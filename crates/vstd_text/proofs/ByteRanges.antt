@@ -1,4 +1,4 @@
--- The ranges of the bytes of forms, told by their highest bits.
+-- The classes of bytes, told by their highest bits.
 use mathlib.Core.Path.{_≡_, sym, ap, _∙_}
 use mathlib.Core.Logic.{_↔_}
 use Prim.Native.Nat.{ℕ, _+_, _-_, _*_, _/_, _%_, _^_, _≤_, _<_}
@@ -21,9 +21,9 @@ range-by-bits j k v b h =
       λ p. omega arith,
     )
 
--- a form alone; the first byte of two, of three, of four; and a byte inside
-pub byte-ranges-bitwise : (b : ℕ) → b < 0x100
+-- `utf8_byte_ranges_bitwise`: a form alone; the first byte of two, of three, of four; and a byte inside
+pub utf8-byte-ranges-bitwise : (b : ℕ) → b < 0x100
     → (((0x00 ≤ b) × (b ≤ 0x7f)) ↔ (bitAnd b 0x80 ≡ 0x00)) × (((0xc0 ≤ b) × (b ≤ 0xdf)) ↔ (bitAnd b 0xe0 ≡ 0xc0))
     × (((0xe0 ≤ b) × (b ≤ 0xef)) ↔ (bitAnd b 0xf0 ≡ 0xe0)) × (((0xf0 ≤ b) × (b ≤ 0xf7)) ↔ (bitAnd b 0xf8 ≡ 0xf0))
     × (((0x80 ≤ b) × (b ≤ 0xbf)) ↔ (bitAnd b 0xc0 ≡ 0x80))
-byte-ranges-bitwise b h = (range-by-bits 1 7 0 b h, range-by-bits 3 5 6 b h, range-by-bits 4 4 14 b h, range-by-bits 5 3 30 b h, range-by-bits 2 6 2 b h)
+utf8-byte-ranges-bitwise b h = (range-by-bits 1 7 0 b h, range-by-bits 3 5 6 b h, range-by-bits 4 4 14 b h, range-by-bits 5 3 30 b h, range-by-bits 2 6 2 b h)
