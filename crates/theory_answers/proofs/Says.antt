@@ -50,9 +50,9 @@ outcome-alike {ok} {P} {Q} {X} {Z} {Y} {W} to from given left o = record { asked
     by false n y = left y
 
 -- two answers to one question are both ok or both refused; so they are equal in what both outcomes settle
-pub outcome-pinned : {ok ok′ : Bool} {P X X′ Y Y′ E : Type 0}
+pub pinned-outcome : {ok ok′ : Bool} {P X X′ Y Y′ E : Type 0}
     → Outcome ok P X Y → Outcome ok′ P X′ Y′ → (X → X′ → E) → (Y → Y′ → E) → (ok ≡ ok′) × E
-outcome-pinned {ok = true} {ok′ = true} o o′ given left = (refl, given (o .given) (o′ .given))
-outcome-pinned {ok = true} {ok′ = false} o o′ given left = absurd (o′ .asked (o .asked))
-outcome-pinned {ok = false} {ok′ = true} o o′ given left = absurd (o .asked (o′ .asked))
-outcome-pinned {ok = false} {ok′ = false} o o′ given left = (refl, left (o .given) (o′ .given))
+pinned-outcome {ok = true} {ok′ = true} o o′ given left = (refl, given (o .given) (o′ .given))
+pinned-outcome {ok = true} {ok′ = false} o o′ given left = absurd (o′ .asked (o .asked))
+pinned-outcome {ok = false} {ok′ = true} o o′ given left = absurd (o .asked (o′ .asked))
+pinned-outcome {ok = false} {ok′ = false} o o′ given left = (refl, left (o .given) (o′ .given))

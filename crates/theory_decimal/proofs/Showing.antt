@@ -8,6 +8,7 @@ use borrow.Author.Tests.{le-ltb}
 use lib.ListN.{length, set, length-set}
 use lib.IntN.{ℤ, pos, negsuc, natAbs}
 use lib.Signed.{ltZ}
+use Rattle.theory_answers.proofs.Says.{pinned-outcome}
 use Rattle.theory_lists.specs.Written.{written}
 use Rattle.theory_lists.proofs.Written.{length-written, written-one, written-twice-up}
 use Rattle.theory_decimal.specs.Written.{places, figures, natural, withSign, whole, Shows}
@@ -61,3 +62,9 @@ whole-by-sign (negsuc n) = refl
 pub shown-by-sign : {ok : Bool} {bytes : ℕ} {s : List ℕ} (at : ℕ) {d : List ℕ} (t x : ℤ) (m : ℕ) → t ≡ x → m ≡ natAbs t
     → Shows ok bytes s at (withSign (ltZ t (pos 0)) m) d → Shows ok bytes s at (whole x) d
 shown-by-sign at t x m z e h = rw (← z, ← whole-by-sign t, ← e) h
+
+-- two writers of the same text, at the same place of the same list, answer alike and leave the same
+pub pinned-shows : {ok ok′ : Bool} {bytes bytes′ : ℕ} (before : List ℕ) (at : ℕ) (text : List ℕ) {after after′ : List ℕ}
+    → Shows ok bytes before at text after → Shows ok′ bytes′ before at text after′ → (ok ≡ ok′) × ((bytes ≡ bytes′) × (after ≡ after′))
+pinned-shows before at text w w′ =
+    pinned-outcome w w′ (λ e e′. (e .0 ∙ sym (e′ .0), e .1 ∙ sym (e′ .1))) (λ e e′. (e .0 ∙ sym (e′ .0), e .1 ∙ sym (e′ .1)))

@@ -7,7 +7,7 @@ use native.Mathlib.Decide.{decLt}
 use native.Mathlib.Omega.{arith}
 use lib.ListN.{length, getD, set, take, drop, length-append, length-take, length-drop, take-append-drop, List·getD-append}
 use lib.Seq.{length-take-le, getD-take, getD-drop, getD-append-add, take-at, drop-at, drop-drop, take-take, take-append-le, drop-append-le, drop-append-add, set-split, ext-getD}
-use Rattle.theory_answers.proofs.Says.{outcome-pinned}
+use Rattle.theory_answers.proofs.Says.{pinned-outcome}
 use Rattle.theory_lists.specs.Part.{part, Within}
 use Rattle.theory_lists.specs.Written.{written, Writes}
 use Rattle.theory_lists.proofs.Part.{length-part, drop-take}
@@ -146,4 +146,4 @@ module _ (s : List ℕ) (at : ℕ) (new : List ℕ) (fits : at + length new ≤ 
 -- two writers of the same elements, at the same place of the same list, answer alike and leave the same
 pub pinned-writes : {ok ok′ : Bool} (before : List ℕ) (at : ℕ) (new : List ℕ) {after after′ : List ℕ}
     → Writes ok before at new after → Writes ok′ before at new after′ → (ok ≡ ok′) × (after ≡ after′)
-pinned-writes before at new w w′ = outcome-pinned w w′ (λ e e′. e ∙ sym e′) (λ e e′. e ∙ sym e′)
+pinned-writes before at new w w′ = pinned-outcome w w′ (λ e e′. e ∙ sym e′) (λ e e′. e ∙ sym e′)

@@ -1,6 +1,6 @@
 -- What vstd promises of the signed integers of w bits (std_specs/num.rs, wrapping.rs), clause by clause, in vstd's terms and under its names. `/` and
--- `%` on its int are the Euclidean pair, rust_div and rust_rem the one that rounds towards zero; None is `refused`, Some is `value`; the language's own
--- `<<` and `>>` stand with their values.
+-- `%` on its int are the Euclidean pair, rust_div and rust_rem the one that rounds towards zero, and there is only one of each (theory_whole,
+-- specs/Pairs.antt); None is `refused`, Some is `answered`; the language's own `<<` and `>>` stand with their values.
 use Prim.Native.Nat.{ℕ, _%_, _^_}
 use lib.IntN.{ℤ, pos, negsuc, _+ℤ_, _-ℤ_, _*ℤ_}
 use lib.Signed.{ltZ, quotZ, remZ}

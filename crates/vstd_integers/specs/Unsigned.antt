@@ -1,5 +1,6 @@
 -- What vstd promises of the unsigned integers of w bits (std_specs/num.rs, wrapping.rs), clause by clause, in vstd's terms and under its names. `/` and
--- `%` on its int are the Euclidean pair; None is `refused`, Some is `value`; the language's own `<<` and `>>` stand with their values.
+-- `%` on its int are the Euclidean pair, of which there is only one (theory_whole, specs/Pairs.antt); None is `refused`, Some is `answered`; the language's
+-- own `<<` and `>>` stand with their values.
 use Prim.Native.Nat.{ℕ, _%_, _^_}
 use lib.IntN.{ℤ, pos, _+ℤ_, _-ℤ_, _*ℤ_}
 use lib.Signed.{ltZ}

@@ -10,7 +10,7 @@ use lib.Seq.{take-all}
 use Rattle.theory_answers.specs.Says.{Says}
 use Rattle.theory_lists.specs.Part.{part, Within, Has}
 use Rattle.theory_lists.specs.Pieces.{pieces}
-use Rattle.theory_answers.proofs.Says.{ok-where, refused-where}
+use Rattle.theory_answers.proofs.Says.{false-where, ok-where, refused-where}
 use Rattle.theory_lists.proofs.Part.{length-part, part-none, take-part, drop-part}
 use Rattle.theory_lists.proofs.Pieces.{pieces-next}
 use Rattle.vstd_slices.specs.Slices as vstd
@@ -90,6 +90,13 @@ module _ {f t : ℕ} {s : List ℕ} (w : Within f t s) where
 
   pub ends-with-kept : {ok b : Bool} (needle : List ℕ) → promise.EndsWith ok b s f t needle → (ok ≡ true) × Says b (vstd.EndsWith (part f t s) needle)
   ends-with-kept needle o = ok-where o w
+
+  -- what vstd says where the equality of elements may not be lawful: a longer needle is not there
+  pub starts-with-longer-kept : {ok : Bool} (b : Bool) (needle : List ℕ) → promise.StartsWith ok b s f t needle → vstd.FalseWhereLonger b (part f t s) needle
+  starts-with-longer-kept b needle o = λ l. false-where b (ok-where o w .1) (λ h. omega (arith, h .fits))
+
+  pub ends-with-longer-kept : {ok : Bool} (b : Bool) (needle : List ℕ) → promise.EndsWith ok b s f t needle → vstd.FalseWhereLonger b (part f t s) needle
+  ends-with-longer-kept b needle o = λ l. false-where b (ok-where o w .1) (λ h. omega (arith, h .fits))
 
   pub contains-kept : {ok b : Bool} (v : ℕ) → promise.Contains ok b s f t v → (ok ≡ true) × Says b (Has v (part f t s))
   contains-kept v o = ok-where o w
