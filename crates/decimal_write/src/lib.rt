@@ -118,7 +118,7 @@ pub fn write_u8(out: &mut [u8], at: usize, x: u8) -> Length
 pub fn write_i8(out: &mut [u8], at: usize, x: i8) -> Length
     ensures { λ r. ⌜ text.Shows (r .ok) (r .value) (now (out .entry)) at (text.whole x) (now (out .exit)) ⌝ }
 {
-    write_with_sign(out, at, x < 0, signed8_sign::magnitude(x) as u64)
+    write_with_sign(out, at, x < 0, signed8_order::magnitude(x) as u64)
 }
 
 pub fn write_u16(out: &mut [u8], at: usize, x: u16) -> Length
@@ -130,7 +130,7 @@ pub fn write_u16(out: &mut [u8], at: usize, x: u16) -> Length
 pub fn write_i16(out: &mut [u8], at: usize, x: i16) -> Length
     ensures { λ r. ⌜ text.Shows (r .ok) (r .value) (now (out .entry)) at (text.whole x) (now (out .exit)) ⌝ }
 {
-    write_with_sign(out, at, x < 0, signed16_sign::magnitude(x) as u64)
+    write_with_sign(out, at, x < 0, signed16_order::magnitude(x) as u64)
 }
 
 pub fn write_u32(out: &mut [u8], at: usize, x: u32) -> Length
@@ -142,13 +142,13 @@ pub fn write_u32(out: &mut [u8], at: usize, x: u32) -> Length
 pub fn write_i32(out: &mut [u8], at: usize, x: i32) -> Length
     ensures { λ r. ⌜ text.Shows (r .ok) (r .value) (now (out .entry)) at (text.whole x) (now (out .exit)) ⌝ }
 {
-    write_with_sign(out, at, x < 0, signed32_sign::magnitude(x) as u64)
+    write_with_sign(out, at, x < 0, signed32_order::magnitude(x) as u64)
 }
 
 pub fn write_i64(out: &mut [u8], at: usize, x: i64) -> Length
     ensures { λ r. ⌜ text.Shows (r .ok) (r .value) (now (out .entry)) at (text.whole x) (now (out .exit)) ⌝ }
 {
-    write_with_sign(out, at, x < 0, signed64_sign::magnitude(x) as u64)
+    write_with_sign(out, at, x < 0, signed64_order::magnitude(x) as u64)
 }
 
 pub fn write_usize(out: &mut [u8], at: usize, x: usize) -> Length
@@ -160,5 +160,5 @@ pub fn write_usize(out: &mut [u8], at: usize, x: usize) -> Length
 pub fn write_isize(out: &mut [u8], at: usize, x: isize) -> Length
     ensures { λ r. ⌜ text.Shows (r .ok) (r .value) (now (out .entry)) at (text.whole x) (now (out .exit)) ⌝ }
 {
-    write_with_sign(out, at, x < 0, signed_size_sign::magnitude(x) as u64)
+    write_with_sign(out, at, x < 0, signed_size_order::magnitude(x) as u64)
 }
