@@ -8,20 +8,20 @@ ghost use Rattle.theory_decimal.specs.Read as said;
 fn pushed(n: u64, c: u8) -> unsigned64_sums::Checked
     ensures { λ r. ⌜ Answers (r .ok) (pos (r .value)) (said.pushed (unsigned 64) n c) ⌝ }
 {
-    if c < 0x30 {
+    if c < b'0' {
         return unsigned64_sums::Checked {
             ok: false,
             value: 0,
         };
     }
-    if 0x39 < c {
+    if b'9' < c {
         return unsigned64_sums::Checked {
             ok: false,
             value: 0,
         };
     }
-    let digit = (c - 0x30) as u64;
-    if 1844674407370955161 < n {
+    let digit = (c - b'0') as u64;
+    if u64::MAX / 10 < n {
         return unsigned64_sums::Checked {
             ok: false,
             value: 0,

@@ -18,7 +18,7 @@ pub fn read_i8(s: &[u8], from: usize, to: usize) -> signed8_sums::Checked
             value: 0,
         };
     }
-    if s[from] == 0x2d {
+    if s[from] == b'-' {
         let magnitude = decimal_read::read_u8(s, from + 1, to);
         if !magnitude.ok {
             return signed8_sums::Checked {
@@ -53,7 +53,7 @@ pub fn read_i16(s: &[u8], from: usize, to: usize) -> signed16_sums::Checked
             value: 0,
         };
     }
-    if s[from] == 0x2d {
+    if s[from] == b'-' {
         let magnitude = decimal_read::read_u16(s, from + 1, to);
         if !magnitude.ok {
             return signed16_sums::Checked {
@@ -88,7 +88,7 @@ pub fn read_i32(s: &[u8], from: usize, to: usize) -> signed32_sums::Checked
             value: 0,
         };
     }
-    if s[from] == 0x2d {
+    if s[from] == b'-' {
         let magnitude = decimal_read::read_u32(s, from + 1, to);
         if !magnitude.ok {
             return signed32_sums::Checked {
@@ -123,7 +123,7 @@ pub fn read_i64(s: &[u8], from: usize, to: usize) -> signed64_sums::Checked
             value: 0,
         };
     }
-    if s[from] == 0x2d {
+    if s[from] == b'-' {
         let magnitude = decimal_read::read_u64(s, from + 1, to);
         if !magnitude.ok {
             return signed64_sums::Checked {
@@ -158,7 +158,7 @@ pub fn read_isize(s: &[u8], from: usize, to: usize) -> signed_size_sums::Checked
             value: 0,
         };
     }
-    if s[from] == 0x2d {
+    if s[from] == b'-' {
         let magnitude = decimal_read::read_usize(s, from + 1, to);
         if !magnitude.ok {
             return signed_size_sums::Checked {

@@ -50,12 +50,12 @@ fn put(out: &mut [u8], at: usize, count: usize, n: u64)
     while at + 1 < place {
         let pair = (left % 100) as u8;
         place -= 2;
-        out[place + 1] = 0x30 + pair % 10;
-        out[place] = 0x30 + pair / 10;
+        out[place + 1] = b'0' + pair % 10;
+        out[place] = b'0' + pair / 10;
         left = left / 100;
     }
     if at < place {
-        out[at] = 0x30 + left as u8;
+        out[at] = b'0' + left as u8;
     }
 }
 
@@ -101,7 +101,7 @@ fn write_with_sign(out: &mut [u8], at: usize, negative: bool, magnitude: u64) ->
             value: 0,
         };
     }
-    out[at] = 0x2d;
+    out[at] = b'-';
     put(out, at + 1, count, magnitude);
     Length {
         ok: true,
