@@ -1,5 +1,6 @@
 """Family A: the crates unsigned8_sums .. signed_size_order, the same parts for both signs and every width."""
 import os
+import re
 
 from templates import CRATES, SIGNS, TEMPLATES, WIDTHS, filled, templates, words
 
@@ -14,6 +15,10 @@ def crate(sign, width, part):
     lib = code.pop("lib")
     for name, function in code.items():
         lib = lib.replace(name.upper() + "\n", function)
+    missing = re.findall(r"^[A-Z_]+$", lib, re.M)
+    if missing:
+        serving = " or ".join(variant for variant in width.variants() if variant)
+        raise SystemExit("generate: templates/%s lacks %s for %d bits: the variant %s" % (os.path.basename(folder), ", ".join(missing), width.bits, serving))
     yield os.path.join(place, "src", "lib.rt"), filled(lib, words(width))
     for name, proof in templates(os.path.join(folder, "proofs"), width).items():
         yield os.path.join(place, "proofs", name, "Proof.antt"), filled(proof, words(width))
