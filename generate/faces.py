@@ -37,9 +37,9 @@ PROMISES = {
 def integers():
     """A face for each integer type."""
     folder = os.path.join(TEMPLATES, "promisebook_integers")
-    for suffix, type_suffix, bits in WIDTHS:
+    for width in WIDTHS:
         for sign in SIGNS:
-            table, own = words(suffix, type_suffix, bits), type_name(sign, type_suffix)
+            table, own = words(width), type_name(sign, width)
             crate = os.path.join(CRATES, "promisebook_" + own)
             yield os.path.join(crate, "src", "lib.rt"), filled(read(os.path.join(folder, sign + ".rt.in")), table)
             for shape, operations in PROMISES[sign].items():
@@ -51,22 +51,26 @@ def integers():
 
 # The faces of one file: which widths they hold, and what width.rt.in and the proofs exist for at each width, where that is not the width alone.
 COUNTS = [{"END": end, "KIND": kind} for end in ("leading", "trailing") for kind in ("zeros", "ones")]
-WHOLE = [("promisebook_zeros", WIDTHS[:4], COUNTS), ("promisebook_number_bytes", WIDTHS[1:4], [{}]), ("promisebook_decimal", WIDTHS, [{}])]
+WHOLE = [
+    ("promisebook_zeros", [width for width in WIDTHS if width.has_zeros], COUNTS),
+    ("promisebook_number_bytes", [width for width in WIDTHS if width.has_bytes], [{}]),
+    ("promisebook_decimal", WIDTHS, [{}]),
+]
 
 
 def whole():
     for name, widths, each in WHOLE:
         folder, crate = os.path.join(TEMPLATES, name), os.path.join(CRATES, name)
         lib = read(os.path.join(folder, "lib.rt.in"))
-        for suffix, type_suffix, bits in widths:
-            title = {"TITLE": "the size type" if type_suffix == "size" else "%d bits" % bits}
-            table = {**words(suffix, type_suffix, bits), **byte_words(type_suffix, bits, {}), **title}
-            code = templates(folder, bits)
+        for width in widths:
+            title = {"TITLE": "the size type" if width.is_size else "%d bits" % width.bits}
+            table = {**words(width), **byte_words(width, {}), **title}
+            code = templates(folder, width)
             lib += filled(code["width"], table)
             for further in each:
                 named = {**table, **further}
                 lib += filled(code.get("count", ""), named)
-                for function, proof in templates(os.path.join(folder, "proofs"), bits).items():
+                for function, proof in templates(os.path.join(folder, "proofs"), width).items():
                     yield os.path.join(crate, "proofs", filled(function, named), "Proof.antt"), filled(proof, named)
         yield os.path.join(crate, "src", "lib.rt"), lib
 

@@ -9,27 +9,27 @@ from templates import CRATES, SIGNS, TEMPLATES, WIDTHS, filled, read, type_name,
 
 def modules():
     """The modules of crates/numbered, one for each kind."""
-    for suffix, type_suffix, bits in WIDTHS:
+    for width in WIDTHS:
         for sign in SIGNS:
             template = read(os.path.join(TEMPLATES, "numbered", sign + ".rt.in"))
-            name = "of_%s.rt" % type_name(sign, type_suffix)
-            yield os.path.join(CRATES, "numbered", "src", name), filled(template, words(suffix, type_suffix, bits))
+            name = "of_%s.rt" % type_name(sign, width)
+            yield os.path.join(CRATES, "numbered", "src", name), filled(template, words(width))
 
 
 def questions():
     """The modules of crates/questions: numbers at each kind, zeros and ones at four of them, bytes at three."""
     folder = os.path.join(TEMPLATES, "questions")
-    for suffix, type_suffix, bits in WIDTHS:
+    for width in WIDTHS:
         for sign in SIGNS:
             code = read(os.path.join(folder, sign + ".rt.in"))
-            if sign == "unsigned" and suffix == type_suffix:
-                code += read(os.path.join(folder, "zeros.rt.in"))
-                code += read(os.path.join(folder, "bytes.rt.in")) if bits > 8 else ""
-            yield os.path.join(CRATES, "questions", "src", "of_%s.rt" % type_name(sign, type_suffix)), filled(code, words(suffix, type_suffix, bits))
+            if sign == "unsigned":
+                code += read(os.path.join(folder, "zeros.rt.in")) if width.has_zeros else ""
+                code += read(os.path.join(folder, "bytes.rt.in")) if width.has_bytes else ""
+            yield os.path.join(CRATES, "questions", "src", "of_%s.rt" % type_name(sign, width)), filled(code, words(width))
 
 
 # The order in which the program goes through the kinds and the operations.
-KINDS = [(sign, bits, type_name(sign, suffix)) for sign in SIGNS for _, suffix, bits in WIDTHS if bits > 8]
+KINDS = [(sign, width.bits, type_name(sign, width)) for sign in SIGNS for width in WIDTHS if not width.all_pairs]
 OPERATIONS = """wrapping_add wrapping_add_signed wrapping_add_unsigned wrapping_sub wrapping_mul wrapping_shl wrapping_shr
     checked_add checked_add_signed checked_add_unsigned checked_sub checked_sub_unsigned checked_mul
     checked_div checked_rem checked_div_euclid checked_rem_euclid checked_next_multiple_of

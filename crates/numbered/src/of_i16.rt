@@ -1,8 +1,8 @@
 // The operations of i16 by their numbers, as the face exports them.
 use crate::Answer;
 use promisebook_i16 as face;
-use signed16 as own;
-use unsigned16 as other;
+use signed16_sums as own;
+use unsigned16_sums as other;
 
 // The operations that answer a number, whatever the arguments.
 fn plain(operation: u8, a: i16, b: i16, distance: u32) -> i16 {

@@ -1,8 +1,8 @@
 // The operations of i32 by their numbers, as the face exports them.
 use crate::Answer;
 use promisebook_i32 as face;
-use signed32 as own;
-use unsigned32 as other;
+use signed32_sums as own;
+use unsigned32_sums as other;
 
 // The operations that answer a number, whatever the arguments.
 fn plain(operation: u8, a: i32, b: i32, distance: u32) -> i32 {

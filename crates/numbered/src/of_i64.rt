@@ -1,8 +1,8 @@
 // The operations of i64 by their numbers, as the face exports them.
 use crate::Answer;
 use promisebook_i64 as face;
-use signed64 as own;
-use unsigned64 as other;
+use signed64_sums as own;
+use unsigned64_sums as other;
 
 // The operations that answer a number, whatever the arguments.
 fn plain(operation: u8, a: i64, b: i64, distance: u32) -> i64 {

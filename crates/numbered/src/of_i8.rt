@@ -1,8 +1,8 @@
 // The operations of i8 by their numbers, as the face exports them.
 use crate::Answer;
 use promisebook_i8 as face;
-use signed8 as own;
-use unsigned8 as other;
+use signed8_sums as own;
+use unsigned8_sums as other;
 
 // The operations that answer a number, whatever the arguments.
 fn plain(operation: u8, a: i8, b: i8, distance: u32) -> i8 {

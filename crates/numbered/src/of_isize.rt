@@ -1,8 +1,8 @@
 // The operations of isize by their numbers, as the face exports them.
 use crate::Answer;
 use promisebook_isize as face;
-use signed_size as own;
-use unsigned_size as other;
+use signed_size_sums as own;
+use unsigned_size_sums as other;
 
 // The operations that answer a number, whatever the arguments.
 fn plain(operation: u8, a: isize, b: isize, distance: u32) -> isize {

@@ -1,8 +1,8 @@
 // The operations of u16 by their numbers, as the face exports them.
 use crate::Answer;
 use promisebook_u16 as face;
-use signed16 as other;
-use unsigned16 as own;
+use signed16_sums as other;
+use unsigned16_sums as own;
 
 // The operations that answer a number, whatever the arguments.
 fn plain(operation: u8, a: u16, b: u16, distance: u32) -> u16 {

@@ -1,8 +1,8 @@
 // The operations of u32 by their numbers, as the face exports them.
 use crate::Answer;
 use promisebook_u32 as face;
-use signed32 as other;
-use unsigned32 as own;
+use signed32_sums as other;
+use unsigned32_sums as own;
 
 // The operations that answer a number, whatever the arguments.
 fn plain(operation: u8, a: u32, b: u32, distance: u32) -> u32 {

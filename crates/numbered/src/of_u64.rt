@@ -1,8 +1,8 @@
 // The operations of u64 by their numbers, as the face exports them.
 use crate::Answer;
 use promisebook_u64 as face;
-use signed64 as other;
-use unsigned64 as own;
+use signed64_sums as other;
+use unsigned64_sums as own;
 
 // The operations that answer a number, whatever the arguments.
 fn plain(operation: u8, a: u64, b: u64, distance: u32) -> u64 {

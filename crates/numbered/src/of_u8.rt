@@ -1,8 +1,8 @@
 // The operations of u8 by their numbers, as the face exports them.
 use crate::Answer;
 use promisebook_u8 as face;
-use signed8 as other;
-use unsigned8 as own;
+use signed8_sums as other;
+use unsigned8_sums as own;
 
 // The operations that answer a number, whatever the arguments.
 fn plain(operation: u8, a: u8, b: u8, distance: u32) -> u8 {

@@ -1,8 +1,8 @@
 // The operations of usize by their numbers, as the face exports them.
 use crate::Answer;
 use promisebook_usize as face;
-use signed_size as other;
-use unsigned_size as own;
+use signed_size_sums as other;
+use unsigned_size_sums as own;
 
 // The operations that answer a number, whatever the arguments.
 fn plain(operation: u8, a: usize, b: usize, distance: u32) -> usize {

@@ -20,7 +20,7 @@ pub fn truth_or_refused(ok: bool, yes: bool) -> Said {
     if ok { Said::Truth(yes) } else { Said::Refused }
 }
 
-// A number of u8, u32 or usize.
+// A number without a sign, of any width.
 pub fn number_or_refused(ok: bool, n: u64) -> Said {
     if ok {
         Said::Number(numbered::U64, n)

@@ -36,7 +36,11 @@ pub fn write(kind: u8, out: &mut [u8], at: usize, bits: u64) -> usize {
 
 fn spell(kind: u8, out: &mut [u8], at: usize, bits: u64) -> decimal_write::Length {
     if numbered::is_signed(kind) {
-        promisebook_decimal::pb_i64_write_decimal(signed64::wrapped(widened(kind, bits)), out, at)
+        promisebook_decimal::pb_i64_write_decimal(
+            signed64_sums::wrapped(widened(kind, bits)),
+            out,
+            at,
+        )
     } else {
         promisebook_decimal::pb_u64_write_decimal(bits, out, at)
     }

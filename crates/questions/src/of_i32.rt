@@ -5,6 +5,6 @@ pub fn read(s: &[u8], from: usize, to: usize) -> Answer {
     let number = promisebook_decimal::pb_i32_read_decimal(s, from, to);
     Answer {
         ok: number.ok,
-        bits: unsigned32::wrapped(number.value) as u64,
+        bits: unsigned32_sums::wrapped(number.value) as u64,
     }
 }

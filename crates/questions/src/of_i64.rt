@@ -5,6 +5,6 @@ pub fn read(s: &[u8], from: usize, to: usize) -> Answer {
     let number = promisebook_decimal::pb_i64_read_decimal(s, from, to);
     Answer {
         ok: number.ok,
-        bits: unsigned64::wrapped(number.value) as u64,
+        bits: unsigned64_sums::wrapped(number.value) as u64,
     }
 }
