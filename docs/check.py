@@ -14,6 +14,7 @@ import re
 import sys
 
 import contracts
+import reflow
 import statements
 from contracts import HERE, Row, commas, expand, items, named, refused
 
@@ -397,6 +398,7 @@ def main():
     others = {name: contracts.read(os.path.join(HERE, name)) for name in ("FINDINGS.md", "BELIEVED.md", "GLOSSARY.md")}
     found, rows = check(files, contracts.read(os.path.join(HERE, "CONTRACTS.md")), others, library)
     faults.extend(found)
+    faults.extend(reflow.too_long())
     if not faults:
         faults.extend(selftest(files, others, library))
     for fault in faults:
