@@ -6,7 +6,8 @@ use Prim.Native.Nat.{ℕ, suc, _+_, _-_, _≤_, _<_}
 use native.Mathlib.Decide.{decLt}
 use native.Mathlib.Omega.{arith}
 use lib.ListN.{length, getD, set, take, drop, length-append, length-take, length-drop, take-append-drop, List·getD-append}
-use lib.Seq.{length-take-le, getD-take, getD-drop, getD-append-add, take-at, drop-at, drop-drop, take-take, take-append-le, drop-append-le, drop-append-add, set-split, ext-getD}
+use lib.Seq.{length-take-le, getD-take, getD-drop, getD-append-add, take-at, drop-at, drop-drop, take-take, take-append-le, drop-append-le, drop-append-add}
+use lib.Seq.{set-split, ext-getD}
 use Rattle.theory_answers.proofs.Says.{pinned-outcome}
 use Rattle.theory_lists.specs.Part.{part, Within}
 use Rattle.theory_lists.specs.Written.{written, Writes}
