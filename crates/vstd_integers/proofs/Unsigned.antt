@@ -122,7 +122,8 @@ module _ (a b : ℕ) where
       (λ e. rw e)
       (λ e. let d : pos (b - a % b) ≡ pos b -ℤ pos (a % b) = difference-is (omega arith) in rw (e, ← d))
 
-pub checked-next-multiple-of-kept : (w : ℕ) {a b : ℕ} → a < 2 ^ w → b < 2 ^ w → only-if (not (eqZ (pos b) (pos 0))) (refuse (unsigned w) (pos (nextMultiple a b))) ≡ checked-next-multiple-of w (pos a) (pos b)
+pub checked-next-multiple-of-kept : (w : ℕ) {a b : ℕ} → a < 2 ^ w → b < 2 ^ w
+    → only-if (not (eqZ (pos b) (pos 0))) (refuse (unsigned w) (pos (nextMultiple a b))) ≡ checked-next-multiple-of w (pos a) (pos b)
 unfolding checked-next-multiple-of only-if
 checked-next-multiple-of-kept w {a} {b} i j =
     by-test (eqb b 0)

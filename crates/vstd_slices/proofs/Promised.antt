@@ -64,7 +64,8 @@ module _ {ok : Bool} {s : List ℕ} {f t : ℕ} where
       ))
       (λ z. z)
 
-  pub split-first-promised : {first x y : ℕ} → Outcome ok (Within f t s × (f < t)) ((first ≡ getD (part f t s) 0 0) × (x ≡ f + 1) × (y ≡ t)) ((first ≡ 0) × (x ≡ 0) × (y ≡ 0)) → SplitFirst ok first x y s f t
+  pub split-first-promised : {first x y : ℕ} → Outcome ok (Within f t s × (f < t)) ((first ≡ getD (part f t s) 0 0) × (x ≡ f + 1) × (y ≡ t))
+      ((first ≡ 0) × (x ≡ 0) × (y ≡ 0)) → SplitFirst ok first x y s f t
   split-first-promised =
       outcome-alike (some-element .0) (some-element .1)
       (λ p g.
