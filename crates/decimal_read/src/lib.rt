@@ -1,4 +1,5 @@
-// Numbers without a sign, read from a part of a slice that says them in decimal (theory_decimal): 64 bits, which every other kind goes by, and then each of those. No function asks anything of its caller.
+// Numbers without a sign, read from a part of a slice that says them in decimal (theory_decimal): 64 bits, which every other kind goes by, and then each of
+// those. No function asks anything of its caller.
 ghost use lib.IntN.{pos};
 ghost use Rattle.theory_whole.specs.Kind.{unsigned};
 ghost use Rattle.theory_answers.specs.Answer.{Answers};

@@ -1,4 +1,5 @@
-// Numbers written as decimal text at a place of a slice (theory_decimal): 64 bits, which every other kind goes by, and then each of those. No function asks anything of its caller.
+// Numbers written as decimal text at a place of a slice (theory_decimal): 64 bits, which every other kind goes by, and then each of those. No function asks
+// anything of its caller.
 ghost use mathlib.Core.Path.{_≡_};
 ghost use Prim.Native.Nat.{_+_, _≤_, _<_, _^_};
 ghost use lib.ListN.{length};

@@ -93,7 +93,8 @@ fn move_towards_back(d: &mut [u8], from: usize, to: usize, at: usize)
 // The part goes to place `at`, counted from the start of s, as if all of it had been read before anything is written. True; or refused, where from and to are not
 // the ends of a part or the copy would run past the end, and nothing is written.
 pub fn copy_within(s: &mut [u8], from: usize, to: usize, at: usize) -> bool
-    ensures { λ r. ⌜ Outcome r (Within from to (now (s .entry)) × (at + (to - from) ≤ length (now (s .entry)))) (now (s .exit) ≡ written (now (s .entry)) at (part from to (now (s .entry)))) (now (s .exit) ≡ now (s .entry)) ⌝ }
+    ensures { λ r. ⌜ Outcome r (Within from to (now (s .entry)) × (at + (to - from) ≤ length (now (s .entry))))
+        (now (s .exit) ≡ written (now (s .entry)) at (part from to (now (s .entry)))) (now (s .exit) ≡ now (s .entry)) ⌝ }
 {
     if to < from {
         return false;
