@@ -4,6 +4,7 @@ what the programs have of each kind, the loops of the bench, and the bindings fo
 
     python3 generate/generate.py           write
     python3 generate/generate.py --check   only compare; exit status 1 where a file differs, is missing, or is one too many
+    python3 generate/generate.py --list    print the paths that it writes
 
 A template is the code itself with some words in capitals (the table `words` in templates.py). NAME.VARIANT.rt.in stands in for NAME.rt.in at the widths of
 that variant."""
@@ -14,6 +15,7 @@ import sys
 import bench
 import bindings
 import decimals
+import declared
 import digits
 import faces
 import integers
@@ -34,10 +36,14 @@ def stored(made):
 
 def main():
     check = sys.argv[1:] == ["--check"]
-    if sys.argv[1:] and not check:
+    if sys.argv[1:] not in ([], ["--check"], ["--list"]):
         sys.exit(__doc__)
     made = {path: text for family in FAMILIES for path, text in family.files()}
-    made.update(bindings.files(made))
+    declared.SOURCES.update(made)
+    made.update(bindings.files())
+    if sys.argv[1:] == ["--list"]:
+        print("\n".join(sorted(os.path.relpath(path, os.path.dirname(CRATES)) for path in made)))
+        return
     strays = sorted(set(stored(made)) - set(made))
     changed = [path for path, text in made.items() if not os.path.exists(path) or read(path) != text]
     for path in changed + strays:

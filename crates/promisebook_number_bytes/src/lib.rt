@@ -6,7 +6,7 @@ ghost use Rattle.theory_answers.specs.Answer.{Answers};
 ghost use Rattle.theory_lists.specs.Written.{Writes};
 ghost use Rattle.theory_digits.specs.Digits.{digitsHigh};
 ghost use Rattle.theory_digits.specs.Number.{numberHigh};
-ghost use Rattle.vstd_number_bytes.specs.Bytes.{from-le-bytes, spec-to-le-bytes};
+ghost use Rattle.vstd_number_bytes.specs.Bytes.{spec-to-le-bytes, from-le-bytes};
 
 // ---- 16 bits
 
