@@ -56,13 +56,18 @@ class Export:
         return self.filled(self.operation.get("face"))
 
     @property
-    def parameters(self):
-        """Pairs of a name and a type."""
-        own = {"own": self.kind.name, "other": self.kind.other} if self.kind else {}
+    def written_parameters(self):
+        """Pairs of a name and a type as the table writes it."""
         pairs = [tuple(word.strip() for word in part.split(":", 1)) for part in self.operation.get("takes").split(",")]
         if any(len(pair) != 2 for pair in pairs):
             raise self.operation.fault("`takes` is not written as NAME: TYPE, NAME: TYPE ..")
-        pairs = tuple((name, own.get(kind, kind)) for name, kind in pairs)
+        return tuple(pairs)
+
+    @property
+    def parameters(self):
+        """Pairs of a name and a type."""
+        own = {"own": self.kind.name, "other": self.kind.other} if self.kind else {}
+        pairs = tuple((name, own.get(kind, kind)) for name, kind in self.written_parameters)
         for name, kind in pairs:
             if not (kind == "bool" or kind in BY_NAME or SLICE.fullmatch(kind)):
                 raise self.operation.fault("its parameter %s has the type %s, for which nothing has a form" % (name, kind))

@@ -1,48 +1,100 @@
-// The operations of i16 by their numbers, as the face exports them.
+// The operations of i16 on numbers, as the faces export them.
 use crate::Answer;
-use promisebook_i16 as face;
 use signed16 as own;
 use unsigned16 as other;
 
-// The operations that answer a number, whatever the arguments.
-fn plain(operation: u8, a: i16, b: i16, distance: u32) -> i16 {
+fn number_of_number_number(operation: u8, x: i16, y: i16) -> Answer {
     match operation {
-        crate::WRAPPING_ADD => face::pb_i16_wrapping_add(a, b),
-        crate::WRAPPING_ADD_UNSIGNED => face::pb_i16_wrapping_add_unsigned(a, other::wrapped(b)),
-        crate::WRAPPING_SUB => face::pb_i16_wrapping_sub(a, b),
-        crate::WRAPPING_MUL => face::pb_i16_wrapping_mul(a, b),
-        crate::WRAPPING_SHL => face::pb_i16_wrapping_shl(a, distance),
-        crate::WRAPPING_SHR => face::pb_i16_wrapping_shr(a, distance),
-        _ => 0,
+        crate::WRAPPING_ADD => as_number(promisebook_i16::pb_i16_wrapping_add(x, y)),
+        crate::WRAPPING_SUB => as_number(promisebook_i16::pb_i16_wrapping_sub(x, y)),
+        _ => as_number(promisebook_i16::pb_i16_wrapping_mul(x, y)),
     }
 }
 
-fn checked(operation: u8, a: i16, b: i16) -> own::Checked {
+fn number_of_number_u32(operation: u8, x: i16, rhs: u32) -> Answer {
     match operation {
-        crate::CHECKED_ADD => face::pb_i16_checked_add(a, b),
-        crate::CHECKED_ADD_UNSIGNED => face::pb_i16_checked_add_unsigned(a, other::wrapped(b)),
-        crate::CHECKED_SUB => face::pb_i16_checked_sub(a, b),
-        crate::CHECKED_SUB_UNSIGNED => face::pb_i16_checked_sub_unsigned(a, other::wrapped(b)),
-        crate::CHECKED_MUL => face::pb_i16_checked_mul(a, b),
-        crate::CHECKED_DIV => face::pb_i16_checked_div(a, b),
-        crate::CHECKED_REM => face::pb_i16_checked_rem(a, b),
-        crate::CHECKED_DIV_EUCLID => face::pb_i16_checked_div_euclid(a, b),
-        _ => face::pb_i16_checked_rem_euclid(a, b),
+        crate::WRAPPING_SHL => as_number(promisebook_i16::pb_i16_wrapping_shl(x, rhs)),
+        _ => as_number(promisebook_i16::pb_i16_wrapping_shr(x, rhs)),
     }
 }
 
-pub fn run(operation: u8, a_bits: u16, b_bits: u16, distance: u32) -> Answer {
-    let a = own::wrapped(a_bits);
-    let b = own::wrapped(b_bits);
+fn checked_of_number_number(operation: u8, x: i16, y: i16) -> Answer {
     match operation {
-        crate::CHECKED_ADD..=crate::CHECKED_REM_EUCLID => {
-            let c = checked(operation, a, b);
-            Answer {
-                ok: c.ok,
-                bits: other::wrapped(c.value) as u64,
-            }
+        crate::CHECKED_ADD => as_checked(promisebook_i16::pb_i16_checked_add(x, y)),
+        crate::CHECKED_SUB => as_checked(promisebook_i16::pb_i16_checked_sub(x, y)),
+        crate::CHECKED_MUL => as_checked(promisebook_i16::pb_i16_checked_mul(x, y)),
+        crate::CHECKED_DIV => as_checked(promisebook_i16::pb_i16_checked_div(x, y)),
+        crate::CHECKED_DIV_EUCLID => {
+            as_checked(promisebook_i16::pb_i16_checked_div_euclid(x, y))
         }
-        crate::COMPARE => crate::order(face::pb_i16_cmp(a, b)),
-        _ => crate::found(other::wrapped(plain(operation, a, b, distance)) as u64),
+        crate::CHECKED_REM => as_checked(promisebook_i16::pb_i16_checked_rem(x, y)),
+        _ => as_checked(promisebook_i16::pb_i16_checked_rem_euclid(x, y)),
+    }
+}
+
+fn checked_of_number_other(operation: u8, x: i16, y: u16) -> Answer {
+    match operation {
+        crate::CHECKED_ADD_UNSIGNED => {
+            as_checked(promisebook_i16::pb_i16_checked_add_unsigned(x, y))
+        }
+        _ => as_checked(promisebook_i16::pb_i16_checked_sub_unsigned(x, y)),
+    }
+}
+
+fn test_of_number_number(operation: u8, x: i16, y: i16) -> Answer {
+    match operation {
+        crate::EQ => as_test(promisebook_i16::pb_i16_eq(x, y)),
+        crate::NE => as_test(promisebook_i16::pb_i16_ne(x, y)),
+        crate::LT => as_test(promisebook_i16::pb_i16_lt(x, y)),
+        crate::LE => as_test(promisebook_i16::pb_i16_le(x, y)),
+        crate::GT => as_test(promisebook_i16::pb_i16_gt(x, y)),
+        _ => as_test(promisebook_i16::pb_i16_ge(x, y)),
+    }
+}
+
+fn as_number(r: i16) -> Answer {
+    crate::found(other::wrapped(r) as u64)
+}
+
+fn as_checked(r: signed16::Checked) -> Answer {
+    crate::parts(r.ok, other::wrapped(r.value) as u64, 0, 0)
+}
+
+fn as_test(r: bool) -> Answer {
+    crate::found(crate::bit(r))
+}
+
+fn as_order(r: i8) -> Answer {
+    crate::order(r)
+}
+
+fn as_partial_ordering(r: ordering::PartialOrdering) -> Answer {
+    if r.ok {
+        crate::order(r.value)
+    } else {
+        crate::refused()
+    }
+}
+
+pub fn run(operation: u8, first: u64, second: u64) -> Answer {
+    let a_i16 = own::wrapped(crate::low16(first));
+    let b_i16 = own::wrapped(crate::low16(second));
+    let b_u16 = crate::low16(second);
+    let b_u32 = crate::low32(second);
+    match crate::form(operation) {
+        crate::NUMBER_OF_NUMBER_NUMBER => number_of_number_number(operation, a_i16, b_i16),
+        crate::NUMBER_OF_NUMBER_OTHER => {
+            as_number(promisebook_i16::pb_i16_wrapping_add_unsigned(a_i16, b_u16))
+        }
+        crate::NUMBER_OF_NUMBER_U32 => number_of_number_u32(operation, a_i16, b_u32),
+        crate::CHECKED_OF_NUMBER_NUMBER => checked_of_number_number(operation, a_i16, b_i16),
+        crate::CHECKED_OF_NUMBER_OTHER => checked_of_number_other(operation, a_i16, b_u16),
+        crate::TEST_OF_NUMBER_NUMBER => test_of_number_number(operation, a_i16, b_i16),
+        crate::NUMBER_OF_NUMBER => as_number(promisebook_i16::pb_i16_clone(a_i16)),
+        crate::ORDER_OF_NUMBER_NUMBER => as_order(promisebook_i16::pb_i16_cmp(a_i16, b_i16)),
+        crate::PARTIAL_ORDERING_OF_NUMBER_NUMBER => {
+            as_partial_ordering(promisebook_i16::pb_i16_partial_cmp(a_i16, b_i16))
+        }
+        _ => crate::refused(),
     }
 }

@@ -1,48 +1,98 @@
-// The operations of i8 by their numbers, as the face exports them.
+// The operations of i8 on numbers, as the faces export them.
 use crate::Answer;
-use promisebook_i8 as face;
 use signed8 as own;
 use unsigned8 as other;
 
-// The operations that answer a number, whatever the arguments.
-fn plain(operation: u8, a: i8, b: i8, distance: u32) -> i8 {
+fn number_of_number_number(operation: u8, x: i8, y: i8) -> Answer {
     match operation {
-        crate::WRAPPING_ADD => face::pb_i8_wrapping_add(a, b),
-        crate::WRAPPING_ADD_UNSIGNED => face::pb_i8_wrapping_add_unsigned(a, other::wrapped(b)),
-        crate::WRAPPING_SUB => face::pb_i8_wrapping_sub(a, b),
-        crate::WRAPPING_MUL => face::pb_i8_wrapping_mul(a, b),
-        crate::WRAPPING_SHL => face::pb_i8_wrapping_shl(a, distance),
-        crate::WRAPPING_SHR => face::pb_i8_wrapping_shr(a, distance),
-        _ => 0,
+        crate::WRAPPING_ADD => as_number(promisebook_i8::pb_i8_wrapping_add(x, y)),
+        crate::WRAPPING_SUB => as_number(promisebook_i8::pb_i8_wrapping_sub(x, y)),
+        _ => as_number(promisebook_i8::pb_i8_wrapping_mul(x, y)),
     }
 }
 
-fn checked(operation: u8, a: i8, b: i8) -> own::Checked {
+fn number_of_number_u32(operation: u8, x: i8, rhs: u32) -> Answer {
     match operation {
-        crate::CHECKED_ADD => face::pb_i8_checked_add(a, b),
-        crate::CHECKED_ADD_UNSIGNED => face::pb_i8_checked_add_unsigned(a, other::wrapped(b)),
-        crate::CHECKED_SUB => face::pb_i8_checked_sub(a, b),
-        crate::CHECKED_SUB_UNSIGNED => face::pb_i8_checked_sub_unsigned(a, other::wrapped(b)),
-        crate::CHECKED_MUL => face::pb_i8_checked_mul(a, b),
-        crate::CHECKED_DIV => face::pb_i8_checked_div(a, b),
-        crate::CHECKED_REM => face::pb_i8_checked_rem(a, b),
-        crate::CHECKED_DIV_EUCLID => face::pb_i8_checked_div_euclid(a, b),
-        _ => face::pb_i8_checked_rem_euclid(a, b),
+        crate::WRAPPING_SHL => as_number(promisebook_i8::pb_i8_wrapping_shl(x, rhs)),
+        _ => as_number(promisebook_i8::pb_i8_wrapping_shr(x, rhs)),
     }
 }
 
-pub fn run(operation: u8, a_bits: u8, b_bits: u8, distance: u32) -> Answer {
-    let a = own::wrapped(a_bits);
-    let b = own::wrapped(b_bits);
+fn checked_of_number_number(operation: u8, x: i8, y: i8) -> Answer {
     match operation {
-        crate::CHECKED_ADD..=crate::CHECKED_REM_EUCLID => {
-            let c = checked(operation, a, b);
-            Answer {
-                ok: c.ok,
-                bits: other::wrapped(c.value) as u64,
-            }
+        crate::CHECKED_ADD => as_checked(promisebook_i8::pb_i8_checked_add(x, y)),
+        crate::CHECKED_SUB => as_checked(promisebook_i8::pb_i8_checked_sub(x, y)),
+        crate::CHECKED_MUL => as_checked(promisebook_i8::pb_i8_checked_mul(x, y)),
+        crate::CHECKED_DIV => as_checked(promisebook_i8::pb_i8_checked_div(x, y)),
+        crate::CHECKED_DIV_EUCLID => as_checked(promisebook_i8::pb_i8_checked_div_euclid(x, y)),
+        crate::CHECKED_REM => as_checked(promisebook_i8::pb_i8_checked_rem(x, y)),
+        _ => as_checked(promisebook_i8::pb_i8_checked_rem_euclid(x, y)),
+    }
+}
+
+fn checked_of_number_other(operation: u8, x: i8, y: u8) -> Answer {
+    match operation {
+        crate::CHECKED_ADD_UNSIGNED => {
+            as_checked(promisebook_i8::pb_i8_checked_add_unsigned(x, y))
         }
-        crate::COMPARE => crate::order(face::pb_i8_cmp(a, b)),
-        _ => crate::found(other::wrapped(plain(operation, a, b, distance)) as u64),
+        _ => as_checked(promisebook_i8::pb_i8_checked_sub_unsigned(x, y)),
+    }
+}
+
+fn test_of_number_number(operation: u8, x: i8, y: i8) -> Answer {
+    match operation {
+        crate::EQ => as_test(promisebook_i8::pb_i8_eq(x, y)),
+        crate::NE => as_test(promisebook_i8::pb_i8_ne(x, y)),
+        crate::LT => as_test(promisebook_i8::pb_i8_lt(x, y)),
+        crate::LE => as_test(promisebook_i8::pb_i8_le(x, y)),
+        crate::GT => as_test(promisebook_i8::pb_i8_gt(x, y)),
+        _ => as_test(promisebook_i8::pb_i8_ge(x, y)),
+    }
+}
+
+fn as_number(r: i8) -> Answer {
+    crate::found(other::wrapped(r) as u64)
+}
+
+fn as_checked(r: signed8::Checked) -> Answer {
+    crate::parts(r.ok, other::wrapped(r.value) as u64, 0, 0)
+}
+
+fn as_test(r: bool) -> Answer {
+    crate::found(crate::bit(r))
+}
+
+fn as_order(r: i8) -> Answer {
+    crate::order(r)
+}
+
+fn as_partial_ordering(r: ordering::PartialOrdering) -> Answer {
+    if r.ok {
+        crate::order(r.value)
+    } else {
+        crate::refused()
+    }
+}
+
+pub fn run(operation: u8, first: u64, second: u64) -> Answer {
+    let a_i8 = own::wrapped(crate::low8(first));
+    let b_i8 = own::wrapped(crate::low8(second));
+    let b_u8 = crate::low8(second);
+    let b_u32 = crate::low32(second);
+    match crate::form(operation) {
+        crate::NUMBER_OF_NUMBER_NUMBER => number_of_number_number(operation, a_i8, b_i8),
+        crate::NUMBER_OF_NUMBER_OTHER => {
+            as_number(promisebook_i8::pb_i8_wrapping_add_unsigned(a_i8, b_u8))
+        }
+        crate::NUMBER_OF_NUMBER_U32 => number_of_number_u32(operation, a_i8, b_u32),
+        crate::CHECKED_OF_NUMBER_NUMBER => checked_of_number_number(operation, a_i8, b_i8),
+        crate::CHECKED_OF_NUMBER_OTHER => checked_of_number_other(operation, a_i8, b_u8),
+        crate::TEST_OF_NUMBER_NUMBER => test_of_number_number(operation, a_i8, b_i8),
+        crate::NUMBER_OF_NUMBER => as_number(promisebook_i8::pb_i8_clone(a_i8)),
+        crate::ORDER_OF_NUMBER_NUMBER => as_order(promisebook_i8::pb_i8_cmp(a_i8, b_i8)),
+        crate::PARTIAL_ORDERING_OF_NUMBER_NUMBER => {
+            as_partial_ordering(promisebook_i8::pb_i8_partial_cmp(a_i8, b_i8))
+        }
+        _ => crate::refused(),
     }
 }

@@ -1,50 +1,113 @@
-// The operations of u32 by their numbers, as the face exports them.
+// The operations of u32 on numbers, as the faces export them.
 use crate::Answer;
-use promisebook_u32 as face;
 use signed32 as other;
 use unsigned32 as own;
 
-// The operations that answer a number, whatever the arguments.
-fn plain(operation: u8, a: u32, b: u32, distance: u32) -> u32 {
+fn number_of_number_number(operation: u8, x: u32, y: u32) -> Answer {
     match operation {
-        crate::WRAPPING_ADD => face::pb_u32_wrapping_add(a, b),
-        crate::WRAPPING_ADD_SIGNED => face::pb_u32_wrapping_add_signed(a, other::wrapped(b)),
-        crate::WRAPPING_SUB => face::pb_u32_wrapping_sub(a, b),
-        crate::WRAPPING_MUL => face::pb_u32_wrapping_mul(a, b),
-        crate::WRAPPING_SHL => face::pb_u32_wrapping_shl(a, distance),
-        crate::WRAPPING_SHR => face::pb_u32_wrapping_shr(a, distance),
-        crate::SATURATING_ADD => face::pb_u32_saturating_add(a, b),
-        crate::SATURATING_SUB => face::pb_u32_saturating_sub(a, b),
-        crate::SATURATING_MUL => face::pb_u32_saturating_mul(a, b),
-        _ => 0,
+        crate::WRAPPING_ADD => as_number(promisebook_u32::pb_u32_wrapping_add(x, y)),
+        crate::WRAPPING_SUB => as_number(promisebook_u32::pb_u32_wrapping_sub(x, y)),
+        crate::WRAPPING_MUL => as_number(promisebook_u32::pb_u32_wrapping_mul(x, y)),
+        crate::SATURATING_ADD => as_number(promisebook_u32::pb_u32_saturating_add(x, y)),
+        crate::SATURATING_SUB => as_number(promisebook_u32::pb_u32_saturating_sub(x, y)),
+        _ => as_number(promisebook_u32::pb_u32_saturating_mul(x, y)),
     }
 }
 
-fn checked(operation: u8, a: u32, b: u32) -> own::Checked {
+fn number_of_number_u32(operation: u8, x: u32, rhs: u32) -> Answer {
     match operation {
-        crate::CHECKED_ADD => face::pb_u32_checked_add(a, b),
-        crate::CHECKED_ADD_SIGNED => face::pb_u32_checked_add_signed(a, other::wrapped(b)),
-        crate::CHECKED_SUB => face::pb_u32_checked_sub(a, b),
-        crate::CHECKED_MUL => face::pb_u32_checked_mul(a, b),
-        crate::CHECKED_DIV => face::pb_u32_checked_div(a, b),
-        crate::CHECKED_REM => face::pb_u32_checked_rem(a, b),
-        crate::CHECKED_DIV_EUCLID => face::pb_u32_checked_div_euclid(a, b),
-        crate::CHECKED_REM_EUCLID => face::pb_u32_checked_rem_euclid(a, b),
-        _ => face::pb_u32_checked_next_multiple_of(a, b),
+        crate::WRAPPING_SHL => as_number(promisebook_u32::pb_u32_wrapping_shl(x, rhs)),
+        _ => as_number(promisebook_u32::pb_u32_wrapping_shr(x, rhs)),
     }
 }
 
-pub fn run(operation: u8, a: u32, b: u32, distance: u32) -> Answer {
+fn checked_of_number_number(operation: u8, x: u32, y: u32) -> Answer {
     match operation {
-        crate::CHECKED_ADD..=crate::CHECKED_NEXT_MULTIPLE_OF => {
-            let c = checked(operation, a, b);
-            Answer {
-                ok: c.ok,
-                bits: c.value as u64,
-            }
+        crate::CHECKED_ADD => as_checked(promisebook_u32::pb_u32_checked_add(x, y)),
+        crate::CHECKED_SUB => as_checked(promisebook_u32::pb_u32_checked_sub(x, y)),
+        crate::CHECKED_MUL => as_checked(promisebook_u32::pb_u32_checked_mul(x, y)),
+        crate::CHECKED_NEXT_MULTIPLE_OF => {
+            as_checked(promisebook_u32::pb_u32_checked_next_multiple_of(x, y))
         }
-        crate::IS_MULTIPLE_OF => crate::test(face::pb_u32_is_multiple_of(a, b)),
-        crate::COMPARE => crate::order(face::pb_u32_cmp(a, b)),
-        _ => crate::found(plain(operation, a, b, distance) as u64),
+        crate::CHECKED_DIV => as_checked(promisebook_u32::pb_u32_checked_div(x, y)),
+        crate::CHECKED_DIV_EUCLID => {
+            as_checked(promisebook_u32::pb_u32_checked_div_euclid(x, y))
+        }
+        crate::CHECKED_REM => as_checked(promisebook_u32::pb_u32_checked_rem(x, y)),
+        _ => as_checked(promisebook_u32::pb_u32_checked_rem_euclid(x, y)),
+    }
+}
+
+fn test_of_number_number(operation: u8, x: u32, y: u32) -> Answer {
+    match operation {
+        crate::IS_MULTIPLE_OF => as_test(promisebook_u32::pb_u32_is_multiple_of(x, y)),
+        crate::EQ => as_test(promisebook_u32::pb_u32_eq(x, y)),
+        crate::NE => as_test(promisebook_u32::pb_u32_ne(x, y)),
+        crate::LT => as_test(promisebook_u32::pb_u32_lt(x, y)),
+        crate::LE => as_test(promisebook_u32::pb_u32_le(x, y)),
+        crate::GT => as_test(promisebook_u32::pb_u32_gt(x, y)),
+        _ => as_test(promisebook_u32::pb_u32_ge(x, y)),
+    }
+}
+
+fn u32_of_number(operation: u8, i: u32) -> Answer {
+    match operation {
+        crate::LEADING_ZEROS => as_u32(promisebook_zeros::pb_u32_leading_zeros(i)),
+        crate::LEADING_ONES => as_u32(promisebook_zeros::pb_u32_leading_ones(i)),
+        crate::TRAILING_ZEROS => as_u32(promisebook_zeros::pb_u32_trailing_zeros(i)),
+        _ => as_u32(promisebook_zeros::pb_u32_trailing_ones(i)),
+    }
+}
+
+fn as_number(r: u32) -> Answer {
+    crate::found(r as u64)
+}
+
+fn as_checked(r: unsigned32::Checked) -> Answer {
+    crate::parts(r.ok, r.value as u64, 0, 0)
+}
+
+fn as_test(r: bool) -> Answer {
+    crate::found(crate::bit(r))
+}
+
+fn as_order(r: i8) -> Answer {
+    crate::order(r)
+}
+
+fn as_partial_ordering(r: ordering::PartialOrdering) -> Answer {
+    if r.ok {
+        crate::order(r.value)
+    } else {
+        crate::refused()
+    }
+}
+
+fn as_u32(r: u32) -> Answer {
+    crate::found(r as u64)
+}
+
+pub fn run(operation: u8, first: u64, second: u64) -> Answer {
+    let a_u32 = crate::low32(first);
+    let b_u32 = crate::low32(second);
+    let b_i32 = other::wrapped(crate::low32(second));
+    match crate::form(operation) {
+        crate::NUMBER_OF_NUMBER_NUMBER => number_of_number_number(operation, a_u32, b_u32),
+        crate::NUMBER_OF_NUMBER_OTHER => {
+            as_number(promisebook_u32::pb_u32_wrapping_add_signed(a_u32, b_i32))
+        }
+        crate::NUMBER_OF_NUMBER_U32 => number_of_number_u32(operation, a_u32, b_u32),
+        crate::CHECKED_OF_NUMBER_NUMBER => checked_of_number_number(operation, a_u32, b_u32),
+        crate::CHECKED_OF_NUMBER_OTHER => {
+            as_checked(promisebook_u32::pb_u32_checked_add_signed(a_u32, b_i32))
+        }
+        crate::TEST_OF_NUMBER_NUMBER => test_of_number_number(operation, a_u32, b_u32),
+        crate::NUMBER_OF_NUMBER => as_number(promisebook_u32::pb_u32_clone(a_u32)),
+        crate::ORDER_OF_NUMBER_NUMBER => as_order(promisebook_u32::pb_u32_cmp(a_u32, b_u32)),
+        crate::PARTIAL_ORDERING_OF_NUMBER_NUMBER => {
+            as_partial_ordering(promisebook_u32::pb_u32_partial_cmp(a_u32, b_u32))
+        }
+        crate::U32_OF_NUMBER => u32_of_number(operation, a_u32),
+        _ => crate::refused(),
     }
 }

@@ -1,0 +1,56 @@
+"""The crate numbered_bytes: the operations that take or answer bytes, and those of text, by their numbers: a module for slices, one for text, and one for each kind."""
+import os
+import re
+
+from code import function, match
+from forms import NUMBERS, module
+from kinds import BY_NAME, KINDS
+from numbered import wrappers
+from numbering import GROUPS, ROWS
+from templates import CRATES, filled_file
+
+FOLDER = os.path.join(CRATES, "numbered_bytes", "src")
+OTHERS = [row for row in ROWS if not row.on_numbers]
+
+
+def says(name, texts):
+    """Whether one of the texts has the name."""
+    return any(re.search(r"\b%s\b" % name, text) for text in texts)
+
+
+def chooser(head, arms, bits, otherwise):
+    """A function that chooses by the form, with the numbers that its arms need."""
+    needed = {name: code for name, code in bits.items() if says(name, arms.values())}
+    lets = ["    let %s = n.%s;\n" % (number, number) for number in NUMBERS if says(number, needed.values())]
+    lets += ["    let %s = %s;\n" % pair for pair in needed.items()]
+    return function(head, "".join(lets) + match("numbered::form(operation)", [("numbered::" + form.upper(), arm) for form, arm in arms.items()], otherwise))
+
+
+def of_group(group):
+    """The module of a kind or a family: what only reads is apart from what writes, since a slice that may be written costs more to check."""
+    functions, converters, arms, bits = module([(row, export) for row in OTHERS for export in row.exports if export.group == group], False)
+    other, handed = ("other: &[u8], ", "other, ") if says("other", [re.sub(r"\bother::", "", arm) for arm in arms.values()]) else ("", "")
+    writing, reading = ({form: arm for form, arm in arms.items() if form.startswith(which)} for which in ("writing_", "reading_"))
+    texts = [
+        chooser("pub fn run(operation: u8, s: &mut [u8], %sn: Numbers) -> Answer" % other, writing, bits, "reading(operation, s, %sn)" % handed),
+        chooser("fn reading(operation: u8, s: &[u8], %sn: Numbers) -> Answer" % other, reading, bits, "numbered::refused()"),
+        *functions,
+        *converters,
+    ]
+    uses = "use numbered::Answer;\nuse numbered::Numbers;\n"
+    if group in BY_NAME:
+        uses += "".join("use %s as %s;\n" % pair for pair in wrappers(BY_NAME[group]) if any(pair[1] + "::" in text for text in texts))
+    about = {"bytes": "slices of bytes", "text": "text"}.get(group, group + " that take or answer bytes")
+    return "\n".join(["// The operations of %s by their numbers, as the faces export them.\n%s" % (about, uses), *texts])
+
+
+def files():
+    modules = "".join(sorted("mod of_%s;\n" % group for group in GROUPS))
+    arms = [(kind, "of_%s::run(operation, s, n)" % kind.name) for kind in KINDS]
+    halves = []
+    for sign in ("unsigned", "signed"):
+        chosen = [("numbered::" + kind.name.upper(), arm) for kind, arm in arms if kind.sign == sign]
+        halves.append(function("fn of_%s(kind: u8, operation: u8, s: &mut [u8], n: Numbers) -> Answer" % sign, match("kind", chosen, "numbered::refused()")))
+    yield os.path.join(FOLDER, "lib.rt"), filled_file("numbered_bytes/lib.rt.in", MODULES=modules, SIGNS="\n".join(halves))
+    for group in GROUPS:
+        yield os.path.join(FOLDER, "of_%s.rt" % group), of_group(group)
