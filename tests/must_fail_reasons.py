@@ -4,7 +4,8 @@
 Reads what the prover said of each edit (target/must-fail/CRATE/EDIT/.log, as `rt ci` leaves it). An edit of a function is refused by a fact where what it says
 first is of a need that could not be shown, and not that a proof names a need that the edited code does not have. An edit of a definition is refused by a fact
 where a law that is stated without it says so: a worked value is computed to be another (proofs/Worked.antt), a pinning law has two answers (its name says
-pinned), or arithmetic does not follow and the numbers are shown at which it fails. Lines that only wait for what another line refuses are passed over."""
+pinned, or it is what such a law waits for), or arithmetic does not follow and the numbers are shown at which it fails. Other lines that only wait for what
+another line refuses are passed over."""
 import glob
 import os
 import re
@@ -12,7 +13,7 @@ import sys
 
 ROOT = os.path.dirname(os.path.dirname(os.path.abspath(__file__)))
 ERROR = re.compile(r"^\S+: error: .*|^note: \S+: it is not proved that .*", re.M)
-WAITS = re.compile(r"` was not admitted \(it has holes or undetermined implicits, or was rejected\), so this cannot be checked")
+WAITS = re.compile(r"error: `([^`]+)`: `([^`]+)` was not admitted \(it has holes or undetermined implicits, or was rejected\), so this cannot be checked")
 # Of a function.
 FACT = re.compile(r"/proofs/\S+/Proof\.antt:\d+:\d+: error: `(?!\S+-spec`)|`search`: no proof of |it is not proved that ")
 SHAPE = re.compile(r"has no `Need-|that can be named from here|expected type `tie\.Need-")
@@ -22,13 +23,13 @@ NUMBERS = re.compile(r"`omega`: the goal does not follow from what it read\. All
 MISFIT = re.compile(r"no occurrence of the path|is not determined|projects from a record|is not in scope|is not a function|takes? .* arguments?")
 
 
-def by_law(line):
-    """Whether a law says by this that the edited definition is wrong."""
+def by_law(line, pinning):
+    """Whether a law says by this that the edited definition is wrong; `pinning` are those that pinning laws wait for."""
     law = LAW.search(line)
     if not law or MISFIT.search(law.group(3)):
         return False
     file, name, said = law.groups()
-    return bool(file == "Worked" and "the two types" in said or "pinned" in name or NUMBERS.match(said))
+    return bool(file == "Worked" and re.search("the two types|expected type", said) or "pinned" in name or name in pinning or NUMBERS.match(said))
 
 
 def fault(log):
@@ -36,8 +37,11 @@ def fault(log):
     if not os.path.exists(log):
         return "was not tried"
     with open(log, encoding="utf-8") as file:
-        said = [line for line in ERROR.findall(file.read()) if not WAITS.search(line)]
-    if said and (FACT.search(said[0]) and not SHAPE.search(said[0]) or any(by_law(line) for line in said)):
+        lines = ERROR.findall(file.read())
+    waits = [found.groups() for found in map(WAITS.search, lines) if found]
+    said = [line for line in lines if not WAITS.search(line)]
+    pinning = {waited for law, waited in waits if "pinned" in law}
+    if said and (FACT.search(said[0]) and not SHAPE.search(said[0]) or any(by_law(line, pinning) for line in said)):
         return None
     return "the prover names no fact that fails, but: %s" % (said[0][:200] if said else "nothing")
 

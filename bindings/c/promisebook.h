@@ -1,5 +1,5 @@
 /* Promisebook: operations on integers, bytes and text whose contracts are proved, for C and C++.
-   Written by generate/generate.py from the exports of crates/promisebook and crates/promisebook_beyond: change it there.
+   Written by generate/generate.py from the exports of the crates promisebook_*: change it there.
 
    Every function answers for all arguments, and ends. "Refused" in a promise means:
    - of an answer with a field ok, that ok is false and every other field 0;

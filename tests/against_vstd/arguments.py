@@ -2,6 +2,7 @@
 import functools
 import itertools
 
+from faults import Fault
 from verus import GREATEST_CHAR, MACHINE, SURROGATES, greatest, least
 
 BYTES = ("Seq", "u8")
@@ -136,6 +137,8 @@ def pool(kind, few):
         return some_byte_strings() if few else byte_strings()
     if kind == CHARS:
         return char_strings()[:40] + char_strings()[-40:] if few else char_strings()
+    if kind not in MACHINE:
+        raise Fault("there are no arguments to try for the type %s" % (kind,))
     return codes() if kind == "u32" else every_power(kind)
 
 
@@ -159,4 +162,4 @@ def tried(kinds):
         return itertools.product(some_byte_strings()[::4], texts()[::2])
     if len(kinds) == 2:
         return itertools.product(pool(kinds[0], True), pool(kinds[1], True))
-    raise KeyError(kinds)
+    raise Fault("there are no arguments to try for the types %s" % (kinds,))

@@ -166,8 +166,7 @@ class Items:
         numbers = lambda: ((number,) for number in arguments.every_power(kind))
         lists = lambda: ((given,) for given in arguments.short_lists())
         if item.kind == "proof":
-            by_type = {(kind,): numbers, (arguments.BYTES,): lists}
-            return Statement(self.library, item, lambda kinds: by_type[kinds]())
+            return Statement(self.library, item, lambda kinds: lists() if kinds == (arguments.BYTES,) else arguments.tried(kinds))
         if item.kind == "spec":
             ours = self.ours("Bytes", "spec-from-le-bytes", width, count - 1) if reads else self.ours("Bytes", "spec-to-le-bytes", count)
             return Definition(self.library, item, ours, lists if reads else numbers)

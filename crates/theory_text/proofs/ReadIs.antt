@@ -17,7 +17,7 @@ use Rattle.theory_text.proofs.Sizes.{len-some}
 pub read-none : (Is : ℕ → Type 0) → ((c : ℕ) → Is c → ⊥) → ReadIs Is false 0 0
 read-none Is n = record { asked = λ p. n (p .0) (p .1); given = (refl, refl) }
 
-pub read-some : (Is : ℕ → Type 0) (c n : ℕ) → Is c → n ≡ len c → ReadIs Is true c n
+read-some : (Is : ℕ → Type 0) (c n : ℕ) → Is c → n ≡ len c → ReadIs Is true c n
 read-some Is c n p e = record { asked = (c, p); given = (p, e) }
 
 module _ (s : List ℕ) where

@@ -1,3 +1,4 @@
+pub mod Worked
 pub mod Operators
 pub mod ByteRanges
 pub mod Ranges
