@@ -1,7 +1,10 @@
 """How programs run an operation: those of a form take and give the same, so that one function of a module runs them, which chooses by the number."""
+import functools
+
 from code import chosen, function
 from declared import Struct
-from numbering import BYTES, ORDER, ROWS, asked, given, said
+from numbering import BYTES, ORDER, asked, given, rows, said
+from table import Fault
 
 LETTERS = "abcdefghijklmnopqrstuvwxyzABCDEFGHIJKLMNOPQRSTUVWXYZ0123456789"
 TAKEN_WORDS = {
@@ -27,14 +30,19 @@ def form(export):
     return ("writing_" if export.writes else "reading_") + taken
 
 
-FORMS = list(dict.fromkeys(form(export) for row in ROWS for export in row.exports))
-assert len(FORMS) <= len(LETTERS)
+@functools.lru_cache(None)
+def forms():
+    """All of them, in the order of the operations."""
+    found = list(dict.fromkeys(form(export) for row in rows() for export in row.exports))
+    if len(found) > len(LETTERS):
+        raise Fault("generate/forms.py: %d forms, and there are letters for %d" % (len(found), len(LETTERS)))
+    return found
 
 
 # ---- numbers as bits
 
 UNSIGNED = {
-    "u8": "NUMBERED::low8(%s)", "u16": "NUMBERED::low16(%s)", "u32": "NUMBERED::low32(%s)", "u64": "%s", "usize": "%s as usize", "bool": "%s != 0",
+    "u8": "numbered::low8(%s)", "u16": "numbered::low16(%s)", "u32": "numbered::low32(%s)", "u64": "%s", "usize": "%s as usize", "bool": "%s != 0",
 }
 
 
@@ -47,7 +55,7 @@ def from_bits(export, kind, bits):
 
 def to_bits(export, kind, value):
     if kind == "bool":
-        return "NUMBERED::bit(%s)" % value
+        return "numbered::bit(%s)" % value
     if kind.startswith("i"):
         return "%s::wrapped(%s) as u64" % ("own" if "u" + kind[1:] == export.kind.name else "other", value)
     return value if kind == "u64" else "%s as u64" % value
@@ -60,15 +68,15 @@ def converter(export):
     parts, answer = said(export), export.answer
     name = "as_" + given_word(export)
     if not isinstance(answer, Struct) and answer == "bool" and export.writes:
-        name, body = "as_done", "    NUMBERED::parts(r, 0, 0, 0)\n"
+        name, body = "as_done", "    numbered::parts(r, 0, 0, 0)\n"
     elif not isinstance(answer, Struct):
-        body = "    NUMBERED::order(r)\n" if parts[0][1] == ORDER else "    NUMBERED::found(%s)\n" % to_bits(export, answer, "r")
+        body = "    numbered::order(r)\n" if parts[0][1] == ORDER else "    numbered::found(%s)\n" % to_bits(export, answer, "r")
     elif parts[0][1] == ORDER:
-        body = "    if r.ok {\n        NUMBERED::order(r.value)\n    } else {\n        NUMBERED::refused()\n    }\n"
+        body = "    if r.ok {\n        numbered::order(r.value)\n    } else {\n        numbered::refused()\n    }\n"
     else:
         fields = dict(answer.fields)
         bits = ["0" if letter == BYTES else part if part.isdigit() else to_bits(export, fields[part], "r." + part) for part, letter in parts]
-        body = "    NUMBERED::parts(r.ok, %s)\n" % ", ".join((bits + ["0", "0", "0"])[:3])
+        body = "    numbered::parts(r.ok, %s)\n" % ", ".join((bits + ["0", "0", "0"])[:3])
     return name, function("fn %s(r: %s) -> Answer" % (name, export.gives), body)
 
 
@@ -89,12 +97,10 @@ def values(export):
     return made
 
 
-def module(found, inside):
-    """The parts of a module for rows with their exports: functions, converters, the arms by form, and the numbers that are made of bits.
-
-    `inside` says whether it stands in the crate numbered itself."""
+def module(found):
+    """The parts of a module for rows with their exports: functions, converters, the arms by form, and the numbers that are made of bits."""
     functions, converters, arms, bits = [], {}, {}, {}
-    for name in FORMS:
+    for name in forms():
         of_form = [(row, export) for row, export in found if form(export) == name]
         if not of_form:
             continue
@@ -108,7 +114,7 @@ def module(found, inside):
                 converters["%s_of_%s" % (converted, crate)] = text.replace("fn %s(" % converted, "fn %s_of_%s(" % (converted, crate))
                 converted = "%s_of_%s" % (converted, crate)
             call = "%s(%s::%s(%%s))" % (converted, each.face, each.symbol)
-            calls.setdefault(call, "NUMBERED::" + row.constant)
+            calls.setdefault(call, "numbered::" + row.constant)
         handed = ", ".join(value for value, _ in values(export))
         if len(calls) == 1:
             arms[name] = next(iter(calls)) % handed
@@ -117,8 +123,4 @@ def module(found, inside):
         own = ", ".join(parameter for parameter, _ in export.parameters)
         functions.append(chosen(head, "operation", [(constant, call % own) for call, constant in calls.items()]))
         arms[name] = "%s(operation, %s)" % (name, handed)
-    crate = "crate" if inside else "numbered"
-    renamed = lambda text: text.replace("NUMBERED::", crate + "::")
-    return [renamed(text) for text in functions], [renamed(text) for text in converters.values()], {name: renamed(arm) for name, arm in arms.items()}, {
-        name: renamed(code) for name, code in bits.items()
-    }
+    return functions, list(converters.values()), arms, bits

@@ -14,15 +14,22 @@ import sys
 
 import bench
 import bindings
+import crates_txt
 import decimals
 import declared
 import digits
+import edges
 import faces
+import help
 import integers
-import programs
+import numbered
+import numbered_bytes
+import numbered_integers
+import spelled
 from templates import CRATES, read
 
-FAMILIES = [integers, digits, decimals, faces, programs, bench]
+CODE = [integers, digits, decimals, bench]
+FROM_THE_TABLE = [faces, numbered, numbered_integers, numbered_bytes, spelled, help, edges, bindings]
 
 
 def stored(made):
@@ -38,9 +45,11 @@ def main():
     check = sys.argv[1:] == ["--check"]
     if sys.argv[1:] not in ([], ["--check"], ["--list"]):
         sys.exit(__doc__)
-    made = {path: text for family in FAMILIES for path, text in family.files()}
+    made = {path: text for writer in CODE for path, text in writer.files()}
     declared.SOURCES.update(made)
-    made.update(bindings.files())
+    declared_here = {path: text for writer in FROM_THE_TABLE for path, text in writer.files()}
+    made.update(declared_here)
+    made.update(crates_txt.files(declared_here))
     if sys.argv[1:] == ["--list"]:
         print("\n".join(sorted(os.path.relpath(path, os.path.dirname(CRATES)) for path in made)))
         return

@@ -5,12 +5,11 @@ import re
 from code import function, match
 from forms import NUMBERS, module
 from kinds import BY_NAME, KINDS
-from numbered import wrappers
-from numbering import GROUPS, ROWS
+from numbered_integers import wrappers
+from numbering import GROUPS, rows
 from templates import CRATES, filled_file
 
 FOLDER = os.path.join(CRATES, "numbered_bytes", "src")
-OTHERS = [row for row in ROWS if not row.on_numbers]
 
 
 def says(name, texts):
@@ -28,7 +27,7 @@ def chooser(head, arms, bits, otherwise):
 
 def of_group(group):
     """The module of a kind or a family: what only reads is apart from what writes, since a slice that may be written costs more to check."""
-    functions, converters, arms, bits = module([(row, export) for row in OTHERS for export in row.exports if export.group == group], False)
+    functions, converters, arms, bits = module([(row, export) for row in rows() for export in row.exports if export.group == group and not row.on_numbers])
     other, handed = ("other: &[u8], ", "other, ") if says("other", [re.sub(r"\bother::", "", arm) for arm in arms.values()]) else ("", "")
     writing, reading = ({form: arm for form, arm in arms.items() if form.startswith(which)} for which in ("writing_", "reading_"))
     texts = [

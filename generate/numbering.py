@@ -2,6 +2,7 @@
 
 A letter is x for the kind that the operation is of, o for the kind of the other sign, t for true or false, c for a comparison, b for bytes, . for nothing, and a
 capital for a kind of its own."""
+import functools
 import re
 from dataclasses import dataclass
 
@@ -109,6 +110,7 @@ def part_letter(export, name, fields, types):
     return letter_of_field(export, fields[name])
 
 
+@functools.lru_cache(None)
 def rows():
     """All rows: of integers on numbers alone, then the others."""
     found = {}
@@ -119,6 +121,8 @@ def rows():
         for name in [export.name] + (export.operation.get("also asked") or "").split():
             found.setdefault((name, takes, says, export.group if not export.kind else ""), []).append(export)
     made = [Row(name, takes, says, tuple(listed)) for (name, takes, says, _), listed in found.items()]
+    if len(made) > 254:
+        raise Fault("generate/numbering.py: %d operations, and programs have numbers for 254" % len(made))
     return [row for row in made if row.on_numbers] + [row for row in made if not row.on_numbers]
 
 
@@ -131,17 +135,10 @@ def check_shape(export, takes, says):
         raise export.operation.fault("it cannot be asked: bytes are the first argument, and other bytes the last (`asked`)")
 
 
-_SHARED = {}
-
-
 def shared(name):
-    """Whether several rows have the name."""
-    if not _SHARED:
-        for row in ROWS:
-            _SHARED.setdefault(row.name, []).append(row)
-    return len([row for row in _SHARED[name] if row.of not in "bt"]) > 1
+    """Whether several rows of integers have the name."""
+    return sum(row.name == name and row.of not in "bt" for row in rows()) > 1
 
 
-ROWS = rows()
-if len(ROWS) > 254:
-    raise Fault("generate/numbering.py: %d operations, and programs have numbers for 254" % len(ROWS))
+def on_numbers():
+    return [row for row in rows() if row.on_numbers]

@@ -4,8 +4,8 @@ import os
 from code import function, match
 from forms import from_bits, to_bits
 from kinds import KINDS
-from numbered import wrappers
-from numbering import ROWS
+from numbered_integers import wrappers
+from numbering import rows
 from templates import CRATES, TEMPLATES, filled_file, read
 
 FOLDER = os.path.join(CRATES, "spelled", "src")
@@ -13,11 +13,11 @@ FOLDER = os.path.join(CRATES, "spelled", "src")
 
 def of_kind(kind):
     """A kind's module."""
-    export = next(export for row in ROWS if row.name == "read_decimal" for export in row.exports if export.kind == kind)
+    export = next(export for row in rows() if row.name == "read_decimal" for export in row.exports if export.kind == kind)
     parts = {"READ": to_bits(export, kind.name, "r.value"), "WRITE": from_bits(export, kind.name, "low"), "TYPE": kind.name}
     text = read(os.path.join(TEMPLATES, "spelled", "kind.rt.in"))
     for word, part in parts.items():
-        text = text.replace(word, part.replace("NUMBERED::", "numbered::"))
+        text = text.replace(word, part)
     uses = "use crate::Number;\n" + "".join("use %s as %s;\n" % pair for pair in wrappers(kind) if pair[1] + "::" in text)
     return text.replace("USES\n", uses)
 

@@ -1,16 +1,5 @@
-// Every operation that the faces export, under a number, with what it takes and answers (written by generate/ from the table of operations); and those of
-// integers on numbers alone to run, at every kind, which programs go through. The modules of_* hold each kind's.
-mod of_i16;
-mod of_i32;
-mod of_i64;
-mod of_i8;
-mod of_isize;
-mod of_u16;
-mod of_u32;
-mod of_u64;
-mod of_u8;
-mod of_usize;
-
+// Every operation that the faces export, under a number, with what it takes and answers: what programs go through (written by generate/ from the table of
+// operations). `numbered_integers` and `numbered_bytes` run them.
 ghost use Prim.Native.Nat.{_≤_};
 
 // ---- kinds of integer, and the families behind them
@@ -333,15 +322,20 @@ fn kind_of(kind: u8, letter: u8) -> u8 {
     }
 }
 
-// The kind of an argument by its place; NOTHING behind the last.
-pub fn takes(kind: u8, operation: u8, place: usize) -> u8 {
+// What stands at a place of the arguments, by its letter.
+pub fn taken(operation: u8, place: usize) -> u8 {
     let at = operation as usize * TAKEN + place % TAKEN;
     let table = TAKES;
     if place < TAKEN && at < table.len() {
-        kind_of(kind, table[at])
+        table[at]
     } else {
-        NOTHING
+        b'.'
     }
+}
+
+// The kind of an argument by its place; NOTHING behind the last.
+pub fn takes(kind: u8, operation: u8, place: usize) -> u8 {
+    kind_of(kind, taken(operation, place))
 }
 
 // The kind of a part of the answer by its place; NOTHING behind the last.
@@ -430,13 +424,13 @@ pub struct Numbers {
     pub fourth: u64,
 }
 
-pub fn two(first: u64, second: u64) -> Numbers {
+pub fn three(first: u64, second: u64, third: u64) -> Numbers {
     Numbers {
         first,
         first_high: 0,
         second,
         second_high: 0,
-        third: 0,
+        third,
         fourth: 0,
     }
 }
@@ -505,26 +499,7 @@ pub fn part(answer: Answer, place: usize) -> u64 {
     }
 }
 
-// ---- the library's answer
-
-// Arguments are cut down to their kind's width. Refused where the operation is not of integers on numbers alone.
-pub fn run(kind: u8, operation: u8, n: Numbers) -> Answer {
-    let first = n.first;
-    let second = n.second;
-    match kind {
-        U8 => of_u8::run(operation, first, second),
-        U16 => of_u16::run(operation, first, second),
-        U32 => of_u32::run(operation, first, second),
-        U64 => of_u64::run(operation, first, second),
-        USIZE => of_usize::run(operation, first, second),
-        I8 => of_i8::run(operation, first, second),
-        I16 => of_i16::run(operation, first, second),
-        I32 => of_i32::run(operation, first, second),
-        I64 => of_i64::run(operation, first, second),
-        ISIZE => of_isize::run(operation, first, second),
-        _ => refused(),
-    }
-}
+// ---- cut down
 
 // The lowest bits of a number.
 pub fn low8(n: u64) -> u8 {

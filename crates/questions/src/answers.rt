@@ -45,10 +45,35 @@ fn found(
     }
     let s = &bytes[0..length];
     let high = answer.first_high;
-    let second = part(numbered::says(kind, operation, 0), s, answer.first, high, out, at);
-    let third = next(numbered::says(kind, operation, 1), s, answer.second, out, second);
-    let fourth = next(numbered::says(kind, operation, 2), s, answer.third, out, third);
-    next(numbered::says(kind, operation, 3), s, answer.fourth, out, fourth)
+    let second = part(
+        numbered::says(kind, operation, 0),
+        s,
+        answer.first,
+        high,
+        out,
+        at,
+    );
+    let third = next(
+        numbered::says(kind, operation, 1),
+        s,
+        answer.second,
+        out,
+        second,
+    );
+    let fourth = next(
+        numbered::says(kind, operation, 2),
+        s,
+        answer.third,
+        out,
+        third,
+    );
+    next(
+        numbered::says(kind, operation, 3),
+        s,
+        answer.fourth,
+        out,
+        fourth,
+    )
 }
 
 fn next(kind: u8, s: &[u8], bits: u64, out: &mut [u8], at: usize) -> usize {

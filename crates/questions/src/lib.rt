@@ -50,7 +50,12 @@ fn asked(kind: u8, operation: u8, line: &[u8], words: Words, bytes: &mut [u8]) -
         return Said::Malformed;
     }
     if operation < numbered::OPERATIONS {
-        return found(kind, operation, 0, numbered::run(kind, operation, numbers.n));
+        return found(
+            kind,
+            operation,
+            0,
+            numbered_integers::run(kind, operation, numbers.n),
+        );
     }
     on_bytes(kind, operation, line, words, &mut bytes[0..n], numbers.n)
 }

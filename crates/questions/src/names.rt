@@ -45,12 +45,19 @@ fn meant(name: &[u8]) -> Name {
 
 // The operation of that name which the kind has; several may share a name.
 fn operation_of(kind: u8, name: &[u8]) -> u8 {
-    let mut number = list::number_in(&numbered::NAMES, name, 0);
-    while number < list::NONE {
+    let mut start = 0;
+    while start < list::NONE {
+        let number = list::number_in(&numbered::NAMES, name, start);
+        if number < start {
+            return list::NONE;
+        }
+        if number == list::NONE {
+            return list::NONE;
+        }
         if numbered::has(kind, number) {
             return number;
         }
-        number = list::number_in(&numbered::NAMES, name, number + 1);
+        start = number + 1;
     }
     list::NONE
 }

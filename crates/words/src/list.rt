@@ -1,5 +1,4 @@
 // A list of names with single spaces between: the number of a name, and the name of a number.
-ghost use Prim.Native.Nat.{_≤_};
 use crate::places;
 
 // The bytes from `from` up to and without `to`.
@@ -12,9 +11,7 @@ pub struct Place {
 pub const NONE: u8 = 255;
 
 // The first number from `start` on whose word is the name, or NONE.
-pub fn number_in(list: &[u8], name: &[u8], start: u8) -> u8
-    ensures { λ r. ⌜ start ≤ r ⌝ }
-{
+pub fn number_in(list: &[u8], name: &[u8], start: u8) -> u8 {
     let mut number = 0;
     let mut at = 0;
     while number < NONE {

@@ -1,10 +1,10 @@
-use Prim.Native.Nat.{_≤_, _-_}
+use Prim.Native.Nat.{_*_, _≤_, _-_}
 use borrow.Author.Needs.{needs}
 use Rattle.every_pair.proofs.row.Statement.{statement}
 use Rattle.every_pair.proofs.row.Tie as tie
 
 abbrev Inv-loop : tie.InvT-loop
-Inv-loop kind operation a count₀ b₀ count b = (count ≤ b) × (b ≤ 256)
+Inv-loop kind operation a count₀ b₀ count b = (count ≤ 256 * b) × (b ≤ 256)
 
 abbrev μ-loop : tie.MeasureT-loop
 μ-loop kind operation a count₀ b₀ count b = 256 - b

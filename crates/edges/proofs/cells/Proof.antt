@@ -1,16 +1,16 @@
 use Prim.Native.Nat.{_≤_, _-_}
 use borrow.Author.Needs.{needs}
-use Rattle.edges.proofs.others.Statement.{statement}
-use Rattle.edges.proofs.others.Tie as tie
+use Rattle.edges.proofs.cells.Statement.{statement}
+use Rattle.edges.proofs.cells.Tie as tie
 
 abbrev Inv-loop : tie.InvT-loop
-Inv-loop kind operation a second count place₀ place = place ≤ count
+Inv-loop kind operation a b count number₀ number = number ≤ count
 
 abbrev μ-loop : tie.MeasureT-loop
-μ-loop kind operation a second count place₀ place = count - place
+μ-loop kind operation a b count number₀ number = count - number
 
-pub others-spec : {M : Type 1} → statement M
-others-spec =
+pub cells-spec : {M : Type 1} → statement M
+cells-spec =
     tie.close
     (tie.spec
     Inv-loop

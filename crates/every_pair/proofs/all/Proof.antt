@@ -1,16 +1,16 @@
 use Prim.Native.Nat.{_*_, _≤_, _-_}
 use borrow.Author.Needs.{needs}
-use Rattle.every_pair.proofs.pairs.Statement.{statement}
-use Rattle.every_pair.proofs.pairs.Tie as tie
+use Rattle.every_pair.proofs.all.Statement.{statement}
+use Rattle.every_pair.proofs.all.Tie as tie
 
 abbrev Inv-loop : tie.InvT-loop
-Inv-loop kind operation count₀ a₀ count a = (count ≤ 256 * a) × (a ≤ 256)
+Inv-loop kind operation count₀ a₀ count a = (count ≤ 65536 * a) × (a ≤ 256)
 
 abbrev μ-loop : tie.MeasureT-loop
 μ-loop kind operation count₀ a₀ count a = 256 - a
 
-pub pairs-spec : {M : Type 1} → statement M
-pairs-spec =
+pub all-spec : {M : Type 1} → statement M
+all-spec =
     tie.close
     (tie.spec
     Inv-loop

@@ -1,16 +1,16 @@
 use Prim.Native.Nat.{_≤_, _-_}
 use borrow.Author.Needs.{needs}
-use Rattle.edges.proofs.shifts.Statement.{statement}
-use Rattle.edges.proofs.shifts.Tie as tie
+use Rattle.edges.proofs.seconds.Statement.{statement}
+use Rattle.edges.proofs.seconds.Tie as tie
 
 abbrev Inv-loop : tie.InvT-loop
-Inv-loop kind operation a place₀ place = place ≤ 12
+Inv-loop kind operation a count thirds₀ number₀ thirds number = number ≤ count
 
 abbrev μ-loop : tie.MeasureT-loop
-μ-loop kind operation a place₀ place = 12 - place
+μ-loop kind operation a count thirds₀ number₀ thirds number = count - number
 
-pub shifts-spec : {M : Type 1} → statement M
-shifts-spec =
+pub seconds-spec : {M : Type 1} → statement M
+seconds-spec =
     tie.close
     (tie.spec
     Inv-loop
