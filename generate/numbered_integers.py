@@ -1,4 +1,4 @@
-"""The crates numbered_unsigned and numbered_signed: the operations of integers on numbers alone by their numbers, a module for each kind, as the faces export them."""
+"""The crates numbered_u8 .. numbered_isize and numbered_integers: the operations of each kind on numbers alone by their numbers, and those of all kinds together."""
 import os
 
 from code import function, match
@@ -27,7 +27,7 @@ def most_common(found):
 
 
 def of_kind(kind):
-    """A kind's module. What takes the most common parameters is a function of its own: two functions with half of the forms each cost half to check."""
+    """A kind's crate. What takes the most common parameters is a function of its own: two functions with half of the forms each cost half to check."""
     found = [(row, export) for row in on_numbers() for export in row.exports if export.kind == kind]
     functions, converters, arms, bits = module(found)
     types, common = most_common(found)
@@ -40,20 +40,21 @@ def of_kind(kind):
     others = {name: arm for name, arm in arms.items() if name not in common}
     lets = "".join("    let %s = %s;\n" % (name, code) for name, code in bits.items())
     run = function(
-        "pub fn run(operation: u8, %s) -> Answer" % ", ".join("%s: u64" % name for name in handed()),
+        "fn handed(operation: u8, %s) -> Answer" % ", ".join("%s: u64" % name for name in handed()),
         lets + match("numbered::form(operation)", [("numbered::" + name.upper(), arm) for name, arm in others.items()], "of_common(operation, %s)" % ", ".join(names)),
     )
-    uses = "use numbered::Answer;\n" + "".join("use %s as %s;\n" % pair for pair in wrappers(kind) if any(pair[1] + "::" in text for text in [run, *converters]))
-    return "\n".join(["// The operations of %s on numbers, as the faces export them.\n%s" % (kind.name, uses), run, inner, *functions, *converters])
+    numbers = ", ".join("n." + name for name in handed())
+    outer = function("pub fn run(operation: u8, n: Numbers) -> Answer", "    handed(operation, %s)\n" % numbers, "Arguments are cut down to their kind's width.")
+    uses = "use numbered::Answer;\nuse numbered::Numbers;\n" + "".join("use %s as %s;\n" % pair for pair in wrappers(kind) if any(pair[1] + "::" in text for text in [run, *converters]))
+    about = "// The operations of %s on numbers alone by their numbers (crate `numbered`), as the faces export them (written by generate/ from the table of operations).\n"
+    return "\n".join([about % kind.name + uses, outer, run, inner, *functions, *converters])
 
 
 def files():
+    runs = []
+    for kind in KINDS:
+        yield os.path.join(CRATES, "numbered_" + kind.name, "src", "lib.rt"), of_kind(kind)
     for sign in SIGNS:
-        kinds, folder = [kind for kind in KINDS if kind.sign == sign], os.path.join(CRATES, "numbered_" + sign, "src")
-        numbers = ", ".join("n." + name for name in handed())
-        arms = match("kind", [("numbered::" + kind.name.upper(), "of_%s::run(operation, %s)" % (kind.name, numbers)) for kind in kinds], "numbered::refused()")
-        modules = "".join(sorted("mod of_%s;\n" % kind.name for kind in kinds))
-        lib = filled_file("numbered_sign/lib.rt.in", MODULES=modules, RUN=function("pub fn run(kind: u8, operation: u8, n: Numbers) -> Answer", arms))
-        yield os.path.join(folder, "lib.rt"), lib.replace("SIGNED", sign)
-        for kind in kinds:
-            yield os.path.join(folder, "of_%s.rt" % kind.name), of_kind(kind)
+        arms = [("numbered::" + kind.name.upper(), "numbered_%s::run(operation, n)" % kind.name) for kind in KINDS if kind.sign == sign]
+        runs.append(function("fn %s(kind: u8, operation: u8, n: Numbers) -> Answer" % sign, match("kind", arms, "numbered::refused()")))
+    yield os.path.join(CRATES, "numbered_integers", "src", "lib.rt"), filled_file("numbered_integers/lib.rt.in", SIGNS="\n".join(runs))

@@ -1,8 +1,14 @@
-// The operations of u16 on numbers, as the faces export them.
+// The operations of u16 on numbers alone by their numbers (crate `numbered`), as the faces export them (written by generate/ from the table of operations).
 use numbered::Answer;
+use numbered::Numbers;
 use signed16 as other;
 
-pub fn run(operation: u8, first: u64, second: u64) -> Answer {
+// Arguments are cut down to their kind's width.
+pub fn run(operation: u8, n: Numbers) -> Answer {
+    handed(operation, n.first, n.second)
+}
+
+fn handed(operation: u8, first: u64, second: u64) -> Answer {
     let a_u16 = numbered::low16(first);
     let b_u16 = numbered::low16(second);
     let b_i16 = other::wrapped(numbered::low16(second));

@@ -1,9 +1,15 @@
-// The operations of i8 on numbers, as the faces export them.
+// The operations of i8 on numbers alone by their numbers (crate `numbered`), as the faces export them (written by generate/ from the table of operations).
 use numbered::Answer;
+use numbered::Numbers;
 use signed8 as own;
 use unsigned8 as other;
 
-pub fn run(operation: u8, first: u64, second: u64) -> Answer {
+// Arguments are cut down to their kind's width.
+pub fn run(operation: u8, n: Numbers) -> Answer {
+    handed(operation, n.first, n.second)
+}
+
+fn handed(operation: u8, first: u64, second: u64) -> Answer {
     let a_i8 = own::wrapped(numbered::low8(first));
     let b_i8 = own::wrapped(numbered::low8(second));
     let b_u8 = numbered::low8(second);

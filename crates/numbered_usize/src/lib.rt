@@ -1,8 +1,14 @@
-// The operations of usize on numbers, as the faces export them.
+// The operations of usize on numbers alone by their numbers (crate `numbered`), as the faces export them (written by generate/ from the table of operations).
 use numbered::Answer;
+use numbered::Numbers;
 use signed_size as other;
 
-pub fn run(operation: u8, first: u64, second: u64) -> Answer {
+// Arguments are cut down to their kind's width.
+pub fn run(operation: u8, n: Numbers) -> Answer {
+    handed(operation, n.first, n.second)
+}
+
+fn handed(operation: u8, first: u64, second: u64) -> Answer {
     let a = first as usize;
     let b = second as usize;
     let b_isize = other::wrapped(second as usize);
