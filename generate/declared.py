@@ -8,7 +8,7 @@ import re
 from dataclasses import dataclass
 
 from kinds import BY_NAME, LETTERS
-from table import FAMILIES
+from table import families_now
 from templates import CRATES, filled, read
 
 SLICE = re.compile(r"&(mut )?\[(\w+)\]")
@@ -247,7 +247,7 @@ def of_operation(operation):
 
 def exports():
     """Every export, by the families' order and within one as the table has them."""
-    return [export for family in FAMILIES for operation in family.operations for export in of_operation(operation)]
+    return [export for family in families_now() for operation in family.operations for export in of_operation(operation)]
 
 
 def grouped(found):

@@ -12,24 +12,30 @@ import glob
 import os
 import sys
 
+import ask_lines
+import ask_page
 import bench
 import bindings
+import complete
+import counts
 import crates_txt
 import decimals
 import declared
 import digits
 import edges
 import faces
-import help
+import help_text
 import integers
 import numbered
 import numbered_bytes
 import numbered_integers
+import rust_integers
+import selftest
 import spelled
 from templates import CRATES, read
 
 CODE = [integers, digits, decimals, bench]
-FROM_THE_TABLE = [faces, numbered, numbered_integers, numbered_bytes, spelled, help, edges, bindings]
+FROM_THE_TABLE = [faces, numbered, numbered_integers, numbered_bytes, spelled, help_text, edges, rust_integers, ask_lines, ask_page, counts, bindings]
 
 
 def stored(made):
@@ -57,15 +63,21 @@ def main():
     changed = [path for path, text in made.items() if not os.path.exists(path) or read(path) != text]
     for path in changed + strays:
         print("%s: %s" % (os.path.relpath(path, os.path.dirname(CRATES)), "is not generated" if path in strays else "differs from its template"))
+    missing = list(complete.faults())
     if check:
-        print("generated files: %d, %d wrong" % (len(made), len(changed) + len(strays)))
-        sys.exit(1 if changed or strays else 0)
+        missing += [] if missing else list(selftest.faults())
+        print("".join(line + "\n" for line in missing) + "generated files: %d, %d wrong; operations: %d faults, %d damages tried" % (
+            len(made), len(changed) + len(strays), len(missing), len(selftest.DAMAGES) + 1,
+        ))
+        sys.exit(1 if changed or strays or missing else 0)
     for path in changed:
         os.makedirs(os.path.dirname(path), exist_ok=True)
         with open(path, "w", encoding="utf-8") as file:
             file.write(made[path])
     for path in strays:
         os.remove(path)
+    if missing:
+        sys.exit("\n".join(missing))
 
 
 if __name__ == "__main__":

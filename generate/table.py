@@ -1,4 +1,5 @@
 """The table of operations: reads operations/*.txt (operations/README.txt says how they are written), and says what is wrong with a record by its file and line."""
+import functools
 import glob
 import os
 import re
@@ -6,6 +7,7 @@ from dataclasses import dataclass, field
 
 from templates import HERE, read
 
+ROOT = os.path.dirname(HERE)
 FOLDER = os.path.join(HERE, "operations")
 # The families, in the order in which everything lists them.
 ORDER = ["integers", "zeros", "number_bytes", "slices", "text", "decimal"]
@@ -14,7 +16,7 @@ OF_FAMILY = re.compile(
 )
 OF_OPERATION = [
     "name", "of", "heading", "note", "takes", "gives", "home", "body", "contract", "proof", "sentence", "vstd", "cases", "characters", "shown", "asked", "given",
-    "said", "answer", "also asked",
+    "said", "answer", "also asked", "rust",
 ]
 # What every operation has, of its own or from its family; `body` may stand for `home`.
 NEEDED = {
@@ -141,4 +143,9 @@ def stored():
     return {os.path.basename(path): read(path) for path in glob.glob(os.path.join(FOLDER, "*.txt")) if os.path.basename(path) != "README.txt"}
 
 
-FAMILIES = families(stored())
+TEXTS = None  # other texts than those that are stored, which selftest.py tries
+
+
+@functools.lru_cache(None)
+def families_now():
+    return families(TEXTS or stored())

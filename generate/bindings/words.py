@@ -1,10 +1,10 @@
 """What the bindings say of a group of exports, an integer type or a family, and of the structs that these answer."""
 from kinds import BY_NAME
-from table import FAMILIES, Fault
+from table import Fault, families_now
 
 
 def family_of(group):
-    for family in FAMILIES:
+    for family in families_now():
         if family.record.get("about") and (family.name == "integers" if group in BY_NAME else group in family.record.get("of").split()):
             return family
     raise Fault("the exports pb_%s_* are of no family that has a sentence (`about`) in generate/operations" % group)

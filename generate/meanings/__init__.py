@@ -14,9 +14,14 @@ def meaning(export):
     return found
 
 
-def cases(export):
-    """The cases of its example: the arguments, the answer, and what each lent slice holds afterwards, by the parameter's name."""
-    for arguments in export.arguments(MODULES[export.operation.family.name]):
+def worked(export, listed):
+    """What it answers to each of the arguments: these, the answer, and what each lent slice holds afterwards, by the parameter's name."""
+    for arguments in listed:
         lent = [bytearray(value) if written.startswith("&mut ") else value for (_, written), value in zip(export.parameters, arguments, strict=True)]
         answer = meaning(export)(export.kind, *lent)
         yield arguments, answer, {name: value for (name, _), value in zip(export.parameters, lent) if isinstance(value, bytearray)}
+
+
+def cases(export):
+    """The cases of its example."""
+    return worked(export, export.arguments(MODULES[export.operation.family.name]))
