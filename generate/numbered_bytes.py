@@ -1,4 +1,5 @@
-"""The crate numbered_bytes: the operations that take or answer bytes, and those of text, by their numbers: a module for slices, one for text, and one for each kind."""
+"""The crates numbered_bytes and numbered_digits: the operations on slices and text, and those of integers that take or answer bytes, by their numbers; a module for each
+family and kind."""
 import os
 import re
 
@@ -7,9 +8,9 @@ from forms import NUMBERS, module
 from kinds import BY_NAME, KINDS
 from numbered_integers import wrappers
 from numbering import GROUPS, rows
-from templates import CRATES, filled_file
+from templates import CRATES, SIGNS, filled_file
 
-FOLDER = os.path.join(CRATES, "numbered_bytes", "src")
+FAMILIES = ["bytes", "text"]
 
 
 def says(name, texts):
@@ -43,13 +44,22 @@ def of_group(group):
     return "\n".join(["// The operations of %s by their numbers, as the faces export them.\n%s" % (about, uses), *texts])
 
 
+def source(crate, file):
+    return os.path.join(CRATES, crate, "src", file)
+
+
+def modules(groups):
+    return "".join(sorted("mod of_%s;\n" % group for group in groups))
+
+
 def files():
-    modules = "".join(sorted("mod of_%s;\n" % group for group in GROUPS))
-    arms = [(kind, "of_%s::run(operation, s, n)" % kind.name) for kind in KINDS]
+    kinds = [kind.name for kind in KINDS]
+    assert sorted(kinds + FAMILIES) == sorted(GROUPS)
+    yield source("numbered_bytes", "lib.rt"), filled_file("numbered_bytes/lib.rt.in", MODULES=modules(FAMILIES))
     halves = []
-    for sign in ("unsigned", "signed"):
-        chosen = [("numbered::" + kind.name.upper(), arm) for kind, arm in arms if kind.sign == sign]
-        halves.append(function("fn of_%s(kind: u8, operation: u8, s: &mut [u8], n: Numbers) -> Answer" % sign, match("kind", chosen, "numbered::refused()")))
-    yield os.path.join(FOLDER, "lib.rt"), filled_file("numbered_bytes/lib.rt.in", MODULES=modules, SIGNS="\n".join(halves))
+    for sign in SIGNS:
+        arms = [("numbered::" + kind.name.upper(), "of_%s::run(operation, s, n)" % kind.name) for kind in KINDS if kind.sign == sign]
+        halves.append(function("fn %s(kind: u8, operation: u8, s: &mut [u8], n: Numbers) -> Answer" % sign, match("kind", arms, "numbered::refused()")))
+    yield source("numbered_digits", "lib.rt"), filled_file("numbered_digits/lib.rt.in", MODULES=modules(kinds), SIGNS="\n".join(halves))
     for group in GROUPS:
-        yield os.path.join(FOLDER, "of_%s.rt" % group), of_group(group)
+        yield source("numbered_bytes" if group in FAMILIES else "numbered_digits", "of_%s.rt" % group), of_group(group)

@@ -1,57 +1,16 @@
-// The operations that take or answer bytes, and those of text, to run by their numbers (crate `numbered`); the modules of_* hold those of each kind and family
-// (written by generate/ from the table of operations).
+// The operations on slices of bytes and on text, to run by their numbers (crate `numbered`); the modules of_* hold those of each (written by generate/ from the
+// table of operations).
 mod of_bytes;
-mod of_i16;
-mod of_i32;
-mod of_i64;
-mod of_i8;
-mod of_isize;
 mod of_text;
-mod of_u16;
-mod of_u32;
-mod of_u64;
-mod of_u8;
-mod of_usize;
 
 use numbered::Answer;
 use numbered::Numbers;
 
-// `s` has the bytes of the question, or room where it has none; it then has those of the answer. `other` has the question's second bytes. Refused where the
-// operation is on numbers alone.
+// `s` has the bytes of the question, and then those of the answer; `other` has the question's second bytes. Refused where there is no such operation.
 pub fn run(kind: u8, operation: u8, s: &mut [u8], other: &[u8], n: Numbers) -> Answer {
     match kind {
         numbered::BYTES => of_bytes::run(operation, s, other, n),
         numbered::TEXT => of_text::run(operation, s, n),
-        _ => of_integers(kind, operation, s, n),
-    }
-}
-
-fn of_integers(kind: u8, operation: u8, s: &mut [u8], n: Numbers) -> Answer {
-    if numbered::is_signed(kind) {
-        of_signed(kind, operation, s, n)
-    } else {
-        of_unsigned(kind, operation, s, n)
-    }
-}
-
-fn of_unsigned(kind: u8, operation: u8, s: &mut [u8], n: Numbers) -> Answer {
-    match kind {
-        numbered::U8 => of_u8::run(operation, s, n),
-        numbered::U16 => of_u16::run(operation, s, n),
-        numbered::U32 => of_u32::run(operation, s, n),
-        numbered::U64 => of_u64::run(operation, s, n),
-        numbered::USIZE => of_usize::run(operation, s, n),
-        _ => numbered::refused(),
-    }
-}
-
-fn of_signed(kind: u8, operation: u8, s: &mut [u8], n: Numbers) -> Answer {
-    match kind {
-        numbered::I8 => of_i8::run(operation, s, n),
-        numbered::I16 => of_i16::run(operation, s, n),
-        numbered::I32 => of_i32::run(operation, s, n),
-        numbered::I64 => of_i64::run(operation, s, n),
-        numbered::ISIZE => of_isize::run(operation, s, n),
         _ => numbered::refused(),
     }
 }

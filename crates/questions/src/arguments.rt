@@ -93,7 +93,7 @@ fn number(kind: u8, operation: u8, line: &[u8], words: Words, place: usize) -> N
     let taken = numbered::takes(kind, operation, place);
     let word = words.word(place + 1);
     match taken {
-        numbered::SLICE | numbered::NOTHING => spelled::number(true, 0),
+        numbered::SLICE | numbered::NOTHING => spelled::of_bits(true, 0),
         _ => spelled::read(taken, line, word.from, word.to),
     }
 }

@@ -72,15 +72,22 @@ fn found(kind: u8, operation: u8, length: usize, answer: Answer) -> Said {
 fn on_bytes(kind: u8, operation: u8, line: &[u8], words: Words, s: &mut [u8], n: Numbers) -> Said {
     let place = arguments::place_of_other(kind, operation);
     if 0 < place {
-        with_other(kind, operation, line, words, place, s, n)
-    } else {
-        found(
+        return with_other(kind, operation, line, words, place, s, n);
+    }
+    if kind < numbered::KINDS {
+        return found(
             kind,
             operation,
             s.len(),
-            numbered_bytes::run(kind, operation, s, b"", n),
-        )
+            numbered_digits::run(kind, operation, s, n),
+        );
     }
+    found(
+        kind,
+        operation,
+        s.len(),
+        numbered_bytes::run(kind, operation, s, b"", n),
+    )
 }
 
 fn with_other(

@@ -21,7 +21,7 @@ pub struct Number {
     pub high: u64,
 }
 
-pub fn number(ok: bool, low: u64) -> Number {
+pub fn of_bits(ok: bool, low: u64) -> Number {
     Number { ok, low, high: 0 }
 }
 
@@ -39,14 +39,14 @@ pub fn read(kind: u8, s: &[u8], from: usize, to: usize) -> Number {
         numbered::I64 => of_i64::read(s, from, to),
         numbered::ISIZE => of_isize::read(s, from, to),
         numbered::TRUTH => truth(s, from, to),
-        _ => number(false, 0),
+        _ => of_bits(false, 0),
     }
 }
 
 fn truth(s: &[u8], from: usize, to: usize) -> Number {
     let yes = promisebook_slices::pb_bytes_equal(s, from, to, b"true");
     let no = promisebook_slices::pb_bytes_equal(s, from, to, b"false");
-    number(yes.value | no.value, numbered::bit(yes.value))
+    of_bits(yes.value | no.value, numbered::bit(yes.value))
 }
 
 // ---- writing
