@@ -35,14 +35,20 @@ def cited(export):
     return [word for word in words if word not in own]
 
 
+def cites(export, name):
+    """Whether a contract has a name of the kit's, or an operator, as _+ℤ_."""
+    return " %s " % name.strip("_") in export.contract if name.startswith("_") else name in cited(export)
+
+
 def uses(found):
     """The lines that import what the contracts cite, in the order of the family's record."""
     lines, left = [], {word: export for export in reversed(found) for word in cited(export)}
     for written in found[0].operation.family.record.get("uses"):
         module, _, rest = found[0].filled(written).partition(" ")
         if rest.startswith("{"):
-            lines.append("%s.%s" % (module, rest))
-            names = re.findall(r"[^{}, ]+", rest)
+            names = [name for name in re.findall(r"[^{}, ]+", rest) if any(cites(export, name) for export in found)]
+            if names:
+                lines.append("%s.{%s}" % (module, ", ".join(names)))
         elif rest.startswith("as "):
             crate, file = module.split("/")
             names = [word for word in left if word.startswith(rest[3:] + ".") and word.split(".")[1] in names_of(module)]
