@@ -102,4 +102,5 @@ def faults(rule=None):
     for operation, what in ruled(rule or read(RULE)):
         missing.setdefault((operation.where, operation.name), []).append(what)
     for (where, name), listed in missing.items():
-        yield "%s: %s: it lacks %s" % (where, name, listed[0] + (" (and so %d times more)" % (len(listed) - 1) if len(listed) > 1 else ""))
+        first_of_a_kind = {what.split(":")[0].split(" pb_")[0]: what for what in reversed(listed)}
+        yield from ("%s: %s: it lacks %s" % (where, name, what) for what in reversed(first_of_a_kind.values()))

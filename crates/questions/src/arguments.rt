@@ -33,7 +33,7 @@ fn is_slice(kind: u8, operation: u8, place: usize) -> bool {
 
 // The question's bytes, into the start of the room: how many. Where it has none, as many as are given with it.
 pub fn bytes(kind: u8, operation: u8, line: &[u8], words: Words, room: &mut [u8]) -> Length {
-    let word = words.word(1);
+    let word = words.argument(0);
     if is_slice(kind, operation, 0) {
         spelled::hex::read(line, word.from, word.to, room)
     } else {
@@ -70,11 +70,27 @@ pub struct Read {
 }
 
 pub fn numbers(kind: u8, operation: u8, line: &[u8], words: Words) -> Read {
-    let front = if is_slice(kind, operation, 0) { 1 } else { 0 };
-    let first = number(kind, operation, line, words, front);
-    let second = number(kind, operation, line, words, front + 1);
-    let third = number(kind, operation, line, words, front + 2);
-    let fourth = number(kind, operation, line, words, front + 3);
+    if is_slice(kind, operation, 0) {
+        numbers_at(kind, operation, line, words, 1, 2, 3, 4)
+    } else {
+        numbers_at(kind, operation, line, words, 0, 1, 2, 3)
+    }
+}
+
+fn numbers_at(
+    kind: u8,
+    operation: u8,
+    line: &[u8],
+    words: Words,
+    a: usize,
+    b: usize,
+    c: usize,
+    d: usize,
+) -> Read {
+    let first = number(kind, operation, line, words, a);
+    let second = number(kind, operation, line, words, b);
+    let third = number(kind, operation, line, words, c);
+    let fourth = number(kind, operation, line, words, d);
     Read {
         ok: first.ok & second.ok & third.ok & fourth.ok,
         n: Numbers {
@@ -91,7 +107,7 @@ pub fn numbers(kind: u8, operation: u8, line: &[u8], words: Words) -> Read {
 // The number at a place; 0 where none is taken there.
 fn number(kind: u8, operation: u8, line: &[u8], words: Words, place: usize) -> Number {
     let taken = numbered::takes(kind, operation, place);
-    let word = words.word(place + 1);
+    let word = words.argument(place);
     match taken {
         numbered::SLICE | numbered::NOTHING => spelled::of_bits(true, 0),
         _ => spelled::read(taken, line, word.from, word.to),

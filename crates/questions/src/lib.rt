@@ -100,7 +100,7 @@ fn with_other(
     n: Numbers,
 ) -> Said {
     let mut room = half_of_line();
-    let word = words.word(place + 1);
+    let word = words.argument(place);
     let read = spelled::hex::read(line, word.from, word.to, &mut room);
     let length = read.value;
     if !read.ok {

@@ -30,6 +30,15 @@ impl Words {
             Word { from: 0, to: 0 }
         }
     }
+
+    // An argument by its number, the first being 0.
+    pub fn argument(self, k: usize) -> Word {
+        if k < MOST {
+            self.word(k + 1)
+        } else {
+            Word { from: 0, to: 0 }
+        }
+    }
 }
 
 pub fn split(line: &[u8]) -> Words {
