@@ -1,5 +1,5 @@
 #!/usr/bin/env python3
-"""Holds docs/contracts, the source of docs/CONTRACTS.md, against the code, the laws and vstd's text.
+"""Holds docs/contracts, the source of docs/CONTRACTS.md, and the documents beside it against the code, the laws and vstd's text.
 
     python3 docs/check.py            exit status 1, and a line for each fault (the functions named check_.. say what is a fault); it then damages a copy of
                                      the source in memory, once for each check, and fails where the damage goes unnoticed
@@ -14,6 +14,7 @@ import re
 import sys
 
 import contracts
+import reflow
 import statements
 from contracts import HERE, Row, commas, expand, items, named, refused
 
@@ -296,6 +297,17 @@ def check_findings(text, library):
                 yield "%s has no item %s" % (file, name)
 
 
+def check_glossary(text, library):
+    """A word of the glossary has a meaning, and names, in its last cell, what exists: a definition, a law or a must-fail edit."""
+    for word, meaning, names in re.findall(r"^\| ([^|]*) \| ([^|]*) \| ([^|]*) \|$", text, re.M):
+        named_there = re.findall(r"`([^`]*)`", names)
+        if word not in ("word", "---") and not (meaning.strip() and named_there):
+            yield "the word %s has no meaning, or names nothing" % word
+        for name in named_there:
+            if not library.exists(name) and name not in library.edits:
+                yield "the word %s names %s, which does not exist" % (word, name)
+
+
 def check(files, markdown, others, library):
     """All faults of a source, its document and the documents beside it."""
     faults, rows = [], []
@@ -311,7 +323,8 @@ def check(files, markdown, others, library):
             for text in texts:
                 faults.extend("docs/contracts/%s: %s" % (file, fault) for fault in check_words(text, library))
     for name, text in others.items():
-        faults.extend("docs/%s: %s" % (name, fault) for one in (check_words, check_findings) for fault in one(text, library))
+        checks = (check_words, check_glossary) if name == "GLOSSARY.md" else (check_words, check_findings)
+        faults.extend("docs/%s: %s" % (name, fault) for one in checks for fault in one(text, library))
     faults.extend(check_whole(rows, files, markdown, library))
     return faults, rows
 
@@ -324,9 +337,9 @@ DAMAGES = [
     ("A", "restated: vstd_integers/Unsigned.wrapping-sub\n", "restated: vstd_integers/Unsigned.wrapping-add\n", "nothing restated stands in the contract of pb_u8_wrapping_sub"),
     ("A", "law: vstd_integers/Unsigned.wrapping-sub-kept", "law: vstd_integers/Unsigned.wrapping-sub-holds", "which does not exist"),
     ("A", "law: vstd_integers/Unsigned.wrapping-sub-kept", "law: vstd_integers/Unsigned.wrapping-sub", "which is a definition"),
-    ("A", "operation: unsignedN::wrapping_sub\n", "operation: unsignedN::saturating_sub\n", "no law of it names what stands in the contract"),
-    ("A", "operation: unsignedN::wrapping_sub\n", "operation: unsignedN::wrapping_less\n", "which is no public function"),
-    ("A", "operation: unsignedN::wrapping_sub\n", "operation: unsignedN::wrapping_add\n", "pb_u8_wrapping_sub calls none of"),
+    ("A", "operation: unsignedN_sums::wrapping_sub\n", "operation: unsignedN_sums::saturating_sub\n", "no law of it names what stands in the contract"),
+    ("A", "operation: unsignedN_sums::wrapping_sub\n", "operation: unsignedN_sums::wrapping_less\n", "which is no public function"),
+    ("A", "operation: unsignedN_sums::wrapping_sub\n", "operation: unsignedN_sums::wrapping_add\n", "pb_u8_wrapping_sub calls none of"),
     ("A", "export: pb_uN_wrapping_sub\n", "export: pb_uN_wrapping_less\n", "which is no public function"),
     ("A", "export: pb_uN_wrapping_sub\n", "export: pb_u{8,16,32,64}_wrapping_sub\n", "no row names the function pb_usize_wrapping_sub"),
     ("A", "item: std_specs/num u::wrapping_sub\n", "item: std_specs/num u::wrapping_less\n", "vstd has no item"),
@@ -339,8 +352,8 @@ DAMAGES = [
     ("A", "verdict: same\n", "verdict: same: by and large\n", "has a reason"),
     ("A", "verdict: same\n", "verdict: stronger\n", "has no reason"),
     ("A", "verdict: same\n", "verdict: left out: for now\n", "it is left out and names a function"),
-    ("A", "wrong: unsigned8/wrapping_sub: one_too_many", "wrong: unsigned16/wrapping_sub: one_too_many", "no must-fail edit unsigned16/wrapping_sub.one_too_many"),
-    ("A", "wrong: unsigned8/wrapping_sub: one_too_many, ", "wrong: unsigned8/wrapping_sub: ", "no row names the must-fail edit unsigned8/wrapping_sub.one_too_many"),
+    ("A", "wrong: unsigned8_sums/wrapping_sub: one_too_many", "wrong: unsigned16_sums/wrapping_sub: one_too_many", "no must-fail edit unsigned16_sums/wrapping_sub.one_too_many"),
+    ("A", "wrong: unsigned8_sums/wrapping_sub: one_too_many, ", "wrong: unsigned8_sums/wrapping_sub: ", "no row names the must-fail edit unsigned8_sums/wrapping_sub.one_too_many"),
     ("A", "clause: the product modulo 2^w\n", "clause: %s\n" % ("the product modulo 2^w " * 6), "more than"),
     ("A", "clause: the product modulo 2^w\nrestated: vstd_integers/Unsigned.wrapping-mul\n", "restated: vstd_integers/Unsigned.wrapping-mul\nclause: the product modulo 2^w\n", "not in the order"),
     ("A", "theory_whole/Order.numbered)", "theory_whole/Order.counted)", "theory_whole/Order.counted does not exist"),
@@ -351,6 +364,13 @@ DAMAGES = [
     ("B", "law: vstd_zeros/Zeros.vstd-trailing-zeros-unfolds, vstd-trailing-zeros-is\n", "law: vstd_zeros/Zeros.vstd-trailing-zeros-unfolds\n", "names anything of ours"),
     ("C", "law: kit/Bits.and-mask\n", "law: kit/Bits.and-masks\n", "which does not exist"),
     ("F", "item: beyond vstd\n", "item: beyond vstd\nverdict: same\n", "what is beyond vstd has no verdict"),
+]
+OTHER_DAMAGES = [
+    ("FINDINGS.md", ".longer-clause-open", ".longer-clause-closed"),
+    ("FINDINGS.md", "`split_at_mut`", "`split_at_must`"),
+    ("GLOSSARY.md", "Fit.wrap`", "Fit.wraps`"),
+    ("GLOSSARY.md", "sum_of_255_refused", "sum_of_256_refused"),
+    ("GLOSSARY.md", "`theory_whole/Fit.clamp`", "the theory"),
 ]
 
 
@@ -366,25 +386,26 @@ def selftest(files, others, library):
             yield "docs/check.py: damage goes unnoticed: %r for %r, with no fault that says %r" % (new.strip(), old.strip(), expected)
     if not check(files, contracts.document(files) + "\n", others, library)[0]:
         yield "docs/check.py: a changed docs/CONTRACTS.md goes unnoticed"
-    for old, new in ((".longer-clause-open", ".longer-clause-closed"), ("`split_at_mut`", "`split_at_must`")):
-        damaged = {name: text.replace(old, new) for name, text in others.items()}
+    for file, old, new in OTHER_DAMAGES:
+        damaged = dict(others, **{file: others[file].replace(old, new)})
         if not check(files, contracts.document(files), damaged, library)[0]:
-            yield "docs/check.py: damage goes unnoticed, or cannot be done: %s for %s in docs/FINDINGS.md" % (new, old)
+            yield "docs/check.py: damage goes unnoticed, or cannot be done: %s for %s in docs/%s" % (new, old, file)
 
 
 def main():
     faults = []
     library = Library(faults)
     files = contracts.sources()
-    others = {name: contracts.read(os.path.join(HERE, name)) for name in ("FINDINGS.md", "BELIEVED.md")}
+    others = {name: contracts.read(os.path.join(HERE, name)) for name in ("FINDINGS.md", "BELIEVED.md", "GLOSSARY.md")}
     found, rows = check(files, contracts.read(os.path.join(HERE, "CONTRACTS.md")), others, library)
     faults.extend(found)
+    faults.extend(reflow.too_long())
     if not faults:
         faults.extend(selftest(files, others, library))
     for fault in faults:
         print(fault)
     taken = sum(item.split(" ")[0] in TAKEN_UP for item in library.items)
-    print("docs: %d rows, %d items of vstd's in the files taken up, %d public functions, %d must-fail edits, %d damages tried, %d faults" % (len(rows), taken, len(library.functions), len(library.edits), len(DAMAGES) + 3, len(faults)))
+    print("docs: %d rows, %d items of vstd's in the files taken up, %d public functions, %d must-fail edits, %d damages tried, %d faults" % (len(rows), taken, len(library.functions), len(library.edits), len(DAMAGES) + len(OTHER_DAMAGES) + 1, len(faults)))
     sys.exit(1 if faults else 0)
 
 

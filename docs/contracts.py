@@ -20,12 +20,15 @@ Names may be shortened, as the document's head says: `expand` and the functions 
 import glob
 import os
 import re
+import sys
 
 HERE = os.path.dirname(os.path.abspath(__file__))
+sys.path.append(os.path.join(os.path.dirname(HERE), "generate"))
+from templates import WIDTHS
+
 FIELDS = ["item", "clause", "restated", "export", "operation", "law", "verdict", "pinned", "wrong"]
 FIRST, SECOND, THIRD = ("item", "clause", "verdict"), ("restated", "export", "operation"), ("law", "pinned", "wrong")
 LABELS = {"restated": "restated as", "export": "export", "operation": "operation", "law": "law", "pinned": "pinned by", "wrong": "refused"}
-WIDTHS = ["8", "16", "32", "64", "size"]
 RANGES = ["Range<usize>", "RangeTo<usize>", "RangeFrom<usize>", "RangeToInclusive<usize>", "RangeFull", "RangeInclusive<usize>"]
 VSTD_FILES = ["arithmetic/power2", "bits", "bytes", "endian", "math", "slice", "std_specs/bits", "std_specs/char", "std_specs/num", "std_specs/range", "std_specs/slice", "utf8", "wrapping"]
 
@@ -73,7 +76,7 @@ def commas(text):
 
 
 def expand(name):
-    """u{8,16}::x is u8::x and u16::x, x ({1..3}) is x, x (2) and x (3); uN, iN, unsignedN and signedN are all five widths, <R as the six range types."""
+    """u{8,16}::x is u8::x and u16::x, x ({1..3}) is x, x (2) and x (3); uN, iN, unsignedN and signedN are all widths, <R as the six range types."""
     if name.startswith("<R as "):
         return ["<%s as %s" % (kind, name[len("<R as ") :]) for kind in RANGES]
     braces = re.search(r"\{([^{}]*)\}", name)
@@ -82,12 +85,13 @@ def expand(name):
         choices = range(int(numbers.group(1)), int(numbers.group(2)) + 1) if numbers else braces.group(1).split(",")
         return [whole for choice in choices for whole in expand(name[: braces.start()] + str(choice).strip() + name[braces.end() :])]
     if re.search(r"(?<![A-Za-z])(?:u|i|unsigned|signed)N(?![A-Za-z])", name):
-        crate = lambda width: "_size" if width == "size" else width
-        return [
-            re.sub(r"(?<![A-Za-z])(unsigned|signed)N(?![A-Za-z])", lambda m: m.group(1) + crate(width), re.sub(r"(?<![A-Za-z])([ui])N(?![A-Za-z])", lambda m: m.group(1) + width, name))
-            for width in WIDTHS
-        ]
+        return [of_width(name, width) for width in WIDTHS]
     return [name]
+
+
+def of_width(name, width):
+    name = re.sub(r"(?<![A-Za-z])(u|i)N(?![A-Za-z])", r"\g<1>" + width.suffix, name)
+    return re.sub(r"(?<![A-Za-z])(unsigned|signed)N(?![A-Za-z])", r"\g<1>" + width.crate, name)
 
 
 def items(row):

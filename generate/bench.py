@@ -9,7 +9,8 @@ from templates import CRATES, TEMPLATES, filled, read
 SOURCE = os.path.join(TEMPLATES, "bench_loops")
 CRATE = os.path.join(CRATES, "bench_loops")
 
-KINDS = [("i32", "signed32"), ("i64", "signed64"), ("u32", "unsigned32"), ("u64", "unsigned64")]
+# The kinds of the loops, and the crate of each whose operations they run.
+KINDS = [("i32", "signed32_sums"), ("i64", "signed64_sums"), ("u32", "unsigned32_sums"), ("u64", "unsigned64_sums")]
 
 
 def parts():

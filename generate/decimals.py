@@ -4,31 +4,35 @@ lib.rt.in is how a file begins, with what reads or writes 64 bits; unsigned.rt.i
 proof's template is that of its function, with words in capitals too. proofs/core has those of lib.rt.in."""
 import os
 
-from templates import CRATES, SIGNS, TEMPLATES, WIDTHS, filled, read, templates, words
+from templates import CRATES, SIGNS, TEMPLATES, WIDTHS, filled, read, templates, type_name, words
+
+# The kind that lib.rt.in reads or writes, and its width.
+CORE = "u64"
+CORE_WIDTH = next(width for width in WIDTHS if type_name("unsigned", width) == CORE)
 
 
 def parts(source):
-    """Each part of a crate's file with its width: what it is called, its bits and its words."""
-    for suffix, type_suffix, bits in WIDTHS:
-        table = words(suffix, type_suffix, bits)
+    """Each part of a crate's file with its width: what it is called, the width and its words."""
+    for width in WIDTHS:
+        table = words(width)
         table["UINT2"] = table["UINT"] + "2"  # how a proof calls the second call of a function whose name ends so
         for sign in SIGNS:
-            if sign in templates(source, bits) and (sign, type_suffix) != ("unsigned", "64"):
-                yield sign, bits, table
+            if sign in templates(source, width) and type_name(sign, width) != CORE:
+                yield sign, width, table
 
 
-def proofs(folder, bits):
-    return templates(folder, bits).items() if os.path.isdir(folder) else []
+def proofs(folder, width):
+    return templates(folder, width).items() if os.path.isdir(folder) else []
 
 
 def crate(name):
     source, place = os.path.join(TEMPLATES, name), os.path.join(CRATES, name)
     lib = read(os.path.join(source, "lib.rt.in"))
-    for function, proof in proofs(os.path.join(source, "proofs", "core"), 64):
+    for function, proof in proofs(os.path.join(source, "proofs", "core"), CORE_WIDTH):
         yield os.path.join(place, "proofs", function, "Proof.antt"), proof
-    for part, bits, table in parts(source):
-        lib += filled(templates(source, bits)[part], table)
-        for function, proof in proofs(os.path.join(source, "proofs", part), bits):
+    for part, width, table in parts(source):
+        lib += filled(templates(source, width)[part], table)
+        for function, proof in proofs(os.path.join(source, "proofs", part), width):
             yield os.path.join(place, "proofs", filled(function, table), "Proof.antt"), filled(proof, table)
     yield os.path.join(place, "src", "lib.rt"), lib
 

@@ -18,13 +18,13 @@ ORDERS = [
     {"ORDER": "be", "NUMBER": "numberHigh", "DIGITS": "digitsHigh", "VALUE": "turned(loaded(s))"},
 ]
 # The crates: their templates, which widths they hold, and what exists once for each end or order.
-WHOLE = [("zeros", "zeros", WIDTHS[:4], "end", ENDS)]
-WHOLE += [("number_bytes" + width[0], "number_bytes", [width], "order", ORDERS) for width in WIDTHS[1:4]]
+WHOLE = [("zeros", "zeros", [width for width in WIDTHS if width.has_zeros], "end", ENDS)]
+WHOLE += [("number_bytes" + width.crate, "number_bytes", [width], "order", ORDERS) for width in WIDTHS if width.has_bytes]
 
 
-def byte_words(type_suffix, bits, order):
+def byte_words(width, order):
     """The words that list a number's bytes, b0 the lowest."""
-    places = list(range(bits // 8))
+    places = list(range(width.bits // 8))
     listed = places if order.get("ORDER") == "le" else places[::-1]
     joined = "b%d" % places[-1]
     for place in places[-2::-1]:
@@ -32,7 +32,7 @@ def byte_words(type_suffix, bits, order):
     return {
         "BYTES": str(len(places)),
         "LAST": str(len(places) - 1),
-        "CRATE": "number_bytes" + type_suffix,
+        "CRATE": "number_bytes" + width.crate,
         "PARAMETERS": ", ".join("b%d: u8" % place for place in places),
         "JOINED": joined,
         "READ": ", ".join("s[%d]" % place for place in places),
@@ -41,13 +41,13 @@ def byte_words(type_suffix, bits, order):
     }
 
 
-def for_each_byte(text, bits):
+def for_each_byte(text, width):
     """Lines that begin with EACH stand, together, for such lines for each byte but the lowest."""
 
     def repeated(match):
         lines = match.group().replace("EACH ", "")
         return "".join(
-            lines.replace("PLACE", str(place)).replace("BELOW", str(place - 1)).replace("SCALE", str(256**place)) for place in range(1, bits // 8)
+            lines.replace("PLACE", str(place)).replace("BELOW", str(place - 1)).replace("SCALE", str(256**place)) for place in range(1, width.bits // 8)
         )
 
     return re.sub(r"(^ *EACH .*\n)+", repeated, text, flags=re.M)
@@ -57,15 +57,15 @@ def whole_crates():
     for name, source, widths, part, each in WHOLE:
         folder = os.path.join(TEMPLATES, source)
         lib = read(os.path.join(folder, "lib.rt.in"))
-        for suffix, type_suffix, bits in widths:
-            code = templates(folder, bits)
-            table = {**words(suffix, type_suffix, bits), **byte_words(type_suffix, bits, {})}
-            lib += filled(for_each_byte(code["width"], bits), table)
+        for width in widths:
+            code = templates(folder, width)
+            table = {**words(width), **byte_words(width, {})}
+            lib += filled(for_each_byte(code["width"], width), table)
             for further in each:
-                table = {**table, **byte_words(type_suffix, bits, further), **further}
-                lib += filled(for_each_byte(code[part], bits), table)
-                for function, proof in templates(os.path.join(folder, "proofs"), bits).items():
-                    yield os.path.join(CRATES, name, "proofs", filled(function, table), "Proof.antt"), filled(for_each_byte(proof, bits), table)
+                table = {**table, **byte_words(width, further), **further}
+                lib += filled(for_each_byte(code[part], width), table)
+                for function, proof in templates(os.path.join(folder, "proofs"), width).items():
+                    yield os.path.join(CRATES, name, "proofs", filled(function, table), "Proof.antt"), filled(for_each_byte(proof, width), table)
         yield os.path.join(CRATES, name, "src", "lib.rt"), lib
 
 

@@ -43,7 +43,7 @@ def rows(kind):
 
 def lines_of_edges():
     for kind in KINDS:
-        for row, export in rows(kind) if kind.bits > 8 else []:
+        for row, export in rows(kind) if not kind.width.all_pairs else []:
             first, *others = (tried(export, written) for _, written in export.written_parameters)
             for a in first:
                 answers = [spelled(export, meaning(export)(kind, a, *rest)) for rest in itertools.product(*others)]
@@ -52,7 +52,7 @@ def lines_of_edges():
 
 def lines_of_every_pair():
     for kind in KINDS:
-        for row, export in rows(kind) if kind.bits == 8 else []:
+        for row, export in rows(kind) if kind.width.all_pairs else []:
             count = 256
             for _, written in export.written_parameters[1:]:
                 count *= 2 if written == "bool" else 256

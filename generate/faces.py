@@ -95,7 +95,7 @@ def proof(export):
     folder = os.path.join(TEMPLATES, "promisebook_" + export.operation.family.name, "proofs")
     if export.kind and os.path.isdir(os.path.join(folder, export.kind.sign)):
         folder = os.path.join(folder, export.kind.sign)
-    shapes = templates(folder, export.kind.bits)
+    shapes = templates(folder, export.kind.width)
     if shape not in shapes:
         raise export.operation.fault("there is no proof of the shape %s (%s.antt.in in generate/%s)" % (shape, shape, os.path.relpath(folder, os.path.dirname(TEMPLATES))))
     named = {**export.kind.code_words(), "OPERATION": export.name, "DASHED": export.name.replace("_", "-")}

@@ -1,6 +1,6 @@
 #!/usr/bin/env python3
-"""Writes what exists once per width, from templates: the crates unsigned8 .. signed_size_sign, zeros, number_bytes16 .. number_bytes64 and decimal_read .. decimal_write, the faces,
-what the programs have of each kind, the loops of the bench, and the bindings for C and Rust.
+"""Writes what exists once per width, from templates: the crates unsigned8_sums .. signed_size_order, zeros, number_bytes16 .. number_bytes64 and
+decimal_read .. decimal_write, the faces, what the programs have of each kind, the loops of the bench, and the bindings for C and Rust.
 
     python3 generate/generate.py           write
     python3 generate/generate.py --check   only compare; exit status 1 where a file differs, is missing, or is one too many

@@ -1,27 +1,31 @@
-"""Family A: the crates unsigned8 .. signed_size, and those of their divisions and of signs."""
+"""Family A: the crates unsigned8_sums .. signed_size_order, the same parts for both signs and every width."""
 import os
+import re
 
-from templates import CRATES, TEMPLATES, WIDTHS, filled, templates, words
+from templates import CRATES, SIGNS, TEMPLATES, WIDTHS, filled, templates, words
+
+# Sums, differences and products; quotients, remainders and multiples; shifts; order, and of signed numbers the sign.
+PARTS = ["sums", "division", "bits", "order"]
 
 
-# The crates of a width: sums, differences and products; divisions and shifts; sign, magnitude and order.
-PARTS = [("unsigned", ""), ("unsigned", "_division"), ("signed", ""), ("signed", "_division"), ("signed", "_sign")]
-
-
-def width_crates():
-    for suffix, type_suffix, bits in WIDTHS:
-        table = words(suffix, type_suffix, bits)
-        for sign, part in PARTS:
-            folder = os.path.join(TEMPLATES, sign + part)
-            code = templates(folder, bits)
-            lib = code.pop("lib")
-            for name, function in code.items():
-                lib = lib.replace(name.upper() + "\n", function)
-            crate = os.path.join(CRATES, sign + suffix + part)
-            yield os.path.join(crate, "src", "lib.rt"), filled(lib, table)
-            for name, proof in templates(os.path.join(folder, "proofs"), bits).items():
-                yield os.path.join(crate, "proofs", name, "Proof.antt"), filled(proof, table)
+def crate(sign, width, part):
+    folder = os.path.join(TEMPLATES, "%s_%s" % (sign, part))
+    place = os.path.join(CRATES, "%s%s_%s" % (sign, width.crate, part))
+    code = templates(folder, width)
+    lib = code.pop("lib")
+    for name, function in code.items():
+        lib = lib.replace(name.upper() + "\n", function)
+    missing = re.findall(r"^[A-Z_]+$", lib, re.M)
+    if missing:
+        serving = " or ".join(variant for variant in width.variants() if variant)
+        raise SystemExit("generate: templates/%s lacks %s for %d bits: the variant %s" % (os.path.basename(folder), ", ".join(missing), width.bits, serving))
+    yield os.path.join(place, "src", "lib.rt"), filled(lib, words(width))
+    for name, proof in templates(os.path.join(folder, "proofs"), width).items():
+        yield os.path.join(place, "proofs", name, "Proof.antt"), filled(proof, words(width))
 
 
 def files():
-    yield from width_crates()
+    for width in WIDTHS:
+        for sign in SIGNS:
+            for part in PARTS:
+                yield from crate(sign, width, part)

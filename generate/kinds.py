@@ -2,26 +2,28 @@
 from dataclasses import dataclass
 
 from digits import byte_words
-from templates import SIGNS, WIDTHS, type_name, words
+from templates import SIGNS, WIDTHS, Width, type_name, words
 
 
 @dataclass(frozen=True)
 class Kind:
     """An integer type."""
 
-    name: str
     sign: str
-    bits: int
-    width: tuple  # the width as templates.py has it
+    width: Width
+
+    @property
+    def name(self):
+        return type_name(self.sign, self.width)
+
+    @property
+    def bits(self):
+        return self.width.bits
 
     @property
     def other(self):
         """The type of the same width and the other sign."""
         return {"u": "i", "i": "u"}[self.name[0]] + self.name[1:]
-
-    @property
-    def is_size(self):
-        return self.name.endswith("size")
 
     @property
     def least(self):
@@ -39,12 +41,12 @@ class Kind:
     def code_words(self):
         """What the words in capitals stand for."""
         return {
-            **words(*self.width),
-            **byte_words(self.width[1], self.bits, {}),
+            **words(self.width),
+            **byte_words(self.width, {}),
             "TYPE": self.name,
             "SIGN": self.sign.capitalize(),
             "LETTER": self.name[0],
-            "TITLE": "the size type" if self.is_size else "%d bits" % self.bits,
+            "TITLE": "the size type" if self.width.is_size else "%d bits" % self.bits,
         }
 
     def sentence_words(self):
@@ -64,11 +66,11 @@ class Kind:
         }
 
 
-KINDS = [Kind(type_name(sign, width[1]), sign, width[2], width) for sign in SIGNS for width in WIDTHS]
+KINDS = [Kind(sign, width) for sign in SIGNS for width in WIDTHS]
 BY_NAME = {kind.name: kind for kind in KINDS}
 LETTERS = {
     "T": [kind for kind in KINDS if kind.sign == "unsigned"],
     "S": [kind for kind in KINDS if kind.sign == "signed"],
-    "U": [kind for kind in KINDS if kind.sign == "unsigned" and not kind.is_size],
-    "W": [kind for kind in KINDS if kind.sign == "unsigned" and not kind.is_size and kind.bits > 8],
+    "U": [kind for kind in KINDS if kind.sign == "unsigned" and kind.width.has_zeros],
+    "W": [kind for kind in KINDS if kind.sign == "unsigned" and kind.width.has_bytes],
 }

@@ -1,11 +1,14 @@
 #!/usr/bin/env python3
 """Each must-fail edit is refused because a fact fails, and not because a proof no longer fits the code or the definitions.
 
-Reads what the prover said of each edit (target/must-fail/CRATE/EDIT/.log, as `rt ci` leaves it). An edit of a function is refused by a fact where what it says
-first is of a need that could not be shown, and not that a proof names a need that the edited code does not have. An edit of a definition is refused by a fact
-where a law that is stated without it says so: a worked value is computed to be another (proofs/Worked.antt), a pinning law has two answers (its name says
-pinned, or it is what such a law waits for), or arithmetic does not follow and the numbers are shown at which it fails. Other lines that only wait for what
-another line refuses are passed over."""
+    python3 tests/must_fail_reasons.py                 exit status 1, and a line for each fault
+    python3 tests/must_fail_reasons.py CRATE/EDIT..    the same question of these edits
+
+Reads what the prover said of each edit (target/must-fail/CRATE/EDIT/.log, as `rt ci` and tests/changed leave it). An edit of a function is refused by a fact
+where what it says first is of a need that could not be shown, and not that a proof names a need that the edited code does not have. An edit of a definition is
+refused by a fact where a law that is stated without it says so: a worked value is computed to be another (proofs/Worked.antt), a pinning law has two answers
+(its name says pinned, or it is what such a law waits for), or arithmetic does not follow and the numbers are shown at which it fails. Other lines that only
+wait for what another line refuses are passed over."""
 import glob
 import os
 import re
@@ -46,13 +49,19 @@ def fault(log):
     return "the prover names no fact that fails, but: %s" % (said[0][:200] if said else "nothing")
 
 
-edits = sorted(glob.glob(os.path.join(ROOT, "crates", "*", "must-fail", "*.edit")))
-faults = 0
-for edit in edits:
-    crate, label = edit.split(os.sep)[-3], os.path.basename(edit)[: -len(".edit")]
-    found = fault(os.path.join(ROOT, "target", "must-fail", crate, label, ".log"))
-    if found:
-        print("%s/%s: %s" % (crate, label, found))
-        faults += 1
-print("must-fail edits: %d refused by a fact, %d not" % (len(edits) - faults, faults))
-sys.exit(1 if faults else 0)
+def main():
+    edits = sorted("/".join(path.split(os.sep)[-3::2])[: -len(".edit")] for path in glob.glob(os.path.join(ROOT, "crates", "*", "must-fail", "*.edit")))
+    asked = sys.argv[1:] or edits
+    faults = ["%s: there is no such edit" % edit for edit in asked if edit not in edits]
+    for edit in asked:
+        found = fault(os.path.join(ROOT, "target", "must-fail", edit, ".log")) if edit in edits else None
+        if found:
+            faults.append("%s: %s" % (edit, found))
+    for line in faults:
+        print("must-fail edits: " + line)
+    print("must-fail edits: %d asked, %d faults" % (len(asked), len(faults)))
+    sys.exit(1 if faults else 0)
+
+
+if __name__ == "__main__":
+    main()

@@ -5,34 +5,17 @@
     python3 tests/no_axioms.py CRATE..     the same question of these crates, say of a program, of which the answer is that it does
 
 A library crate is one of crates.txt that stands on none of the kit's libraries of foreign functions (io, libc, os), directly or through others. Read is what
-the prover said when it last proved the crate (target/log/CRATE.say, as `rt ci` or `rt check` leaves it): the line `logic=proved ..`, which has `foreign=` where the crate declares
-functions that are not proved and `axioms=` where a program's check reached any, and lines `axioms LIBRARY: ..`, which name them. The programs' own axioms are looked for as well: a
-reader that does not see those would see none."""
+the prover said when it last proved the crate (target/log/CRATE.say, as `rt ci` or `rt check` leaves it): the line `logic=proved ..`, which has `foreign=` where
+the crate declares functions that are not proved and `axioms=` where a program's check reached any, and lines `axioms LIBRARY: ..`, which name them. Without
+CRATE.. the programs' own axioms are looked for as well: a reader that does not see those would see none."""
 import os
 import re
 import sys
 
-ROOT = os.path.dirname(os.path.dirname(os.path.abspath(__file__)))
-FOREIGN = {"io", "libc", "os"}
+import crates as listed
+from crates import FOREIGN, ROOT, below
+
 NAMED = re.compile(r"^axioms .*|^logic=proved .*?((?:foreign|axioms)=\S+).*|^.*\bassumed\b.*", re.M)
-
-
-def graph():
-    """crates.txt: each crate and what it stands on."""
-    with open(os.path.join(ROOT, "crates.txt"), encoding="utf-8") as file:
-        lines = [line.split(":") for line in file.read().split("\n") if line and not line.startswith("#")]
-    return {name.strip(): below.split() for name, below in lines}
-
-
-def below(crate, crates):
-    """All that a crate stands on, directly or through others."""
-    found, todo = set(), [crate]
-    while todo:
-        for name in crates.get(todo.pop(), []):
-            if name not in found:
-                found.add(name)
-                todo.append(name)
-    return found
 
 
 def axioms(crate):
@@ -48,10 +31,8 @@ def axioms(crate):
 
 
 def main():
-    crates = graph()
-    programs = [crate for crate in crates if os.path.exists(os.path.join(ROOT, "crates", crate, "src", "main.rt"))]
-    libraries = [crate for crate in crates if crate not in programs and not FOREIGN & below(crate, crates)]
-    asked = sys.argv[1:] or libraries
+    crates = listed.graph()
+    asked = sys.argv[1:] or listed.libraries(crates)
     faults = []
     for crate in asked:
         named = axioms(crate)
@@ -61,11 +42,11 @@ def main():
             faults.append("%s: its check names %s" % (crate, name))
         for name in sorted(FOREIGN & below(crate, crates)):
             faults.append("%s: it stands on %s, a library of foreign functions" % (crate, name))
-    blind = not sys.argv[1:] and not any(axioms(crate) for crate in programs)
+    blind = not sys.argv[1:] and not any(axioms(crate) for crate in listed.programs(crates))
     if blind:
         faults.append("no program's check names an axiom, though they print: what names one is not read, or no program was proved here")
     for fault in faults:
-        print(fault)
+        print("axioms: " + fault)
     print("axioms: %d crates asked, %d faults" % (len(asked), len(faults)))
     sys.exit(1 if faults else 0)
 

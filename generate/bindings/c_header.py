@@ -14,7 +14,7 @@ def c_type(name):
     if name == "bool":
         return name
     kind = BY_NAME[name]
-    if kind.is_size:
+    if kind.width.is_size:
         return {"unsigned": "size_t", "signed": "ptrdiff_t"}[kind.sign]
     return "%sint%d_t" % ("u" if kind.sign == "unsigned" else "", kind.bits)
 

@@ -6,7 +6,7 @@
 pub extern "C" fn loop_i32_checked_add(xs: &[i32]) -> i32 {
     let mut sum: i32 = 0;
     for i in 0..xs.len() {
-        let next = signed32::checked_add(sum, xs[i]);
+        let next = signed32_sums::checked_add(sum, xs[i]);
         if !next.ok {
             return 0;
         }
@@ -19,7 +19,7 @@ pub extern "C" fn loop_i32_checked_add(xs: &[i32]) -> i32 {
 pub extern "C" fn loop_i32_checked_mul(xs: &[i32]) -> i32 {
     let mut product: i32 = 1;
     for i in 0..xs.len() {
-        let next = signed32::checked_mul(product, xs[i]);
+        let next = signed32_sums::checked_mul(product, xs[i]);
         if !next.ok {
             return 0;
         }
@@ -32,7 +32,7 @@ pub extern "C" fn loop_i32_checked_mul(xs: &[i32]) -> i32 {
 pub extern "C" fn loop_i32_wrapping_add(xs: &[i32]) -> i32 {
     let mut sum: i32 = 0;
     for i in 0..xs.len() {
-        sum = signed32::wrapping_add(sum, xs[i]);
+        sum = signed32_sums::wrapping_add(sum, xs[i]);
     }
     sum
 }
@@ -41,7 +41,7 @@ pub extern "C" fn loop_i32_wrapping_add(xs: &[i32]) -> i32 {
 pub extern "C" fn loop_i32_wrapping_mul(xs: &[i32]) -> i32 {
     let mut product: i32 = 1;
     for i in 0..xs.len() {
-        product = signed32::wrapping_mul(product, xs[i]);
+        product = signed32_sums::wrapping_mul(product, xs[i]);
     }
     product
 }
@@ -52,7 +52,7 @@ pub extern "C" fn loop_i32_wrapping_mul(xs: &[i32]) -> i32 {
 pub extern "C" fn loop_i64_checked_add(xs: &[i64]) -> i64 {
     let mut sum: i64 = 0;
     for i in 0..xs.len() {
-        let next = signed64::checked_add(sum, xs[i]);
+        let next = signed64_sums::checked_add(sum, xs[i]);
         if !next.ok {
             return 0;
         }
@@ -65,7 +65,7 @@ pub extern "C" fn loop_i64_checked_add(xs: &[i64]) -> i64 {
 pub extern "C" fn loop_i64_checked_mul(xs: &[i64]) -> i64 {
     let mut product: i64 = 1;
     for i in 0..xs.len() {
-        let next = signed64::checked_mul(product, xs[i]);
+        let next = signed64_sums::checked_mul(product, xs[i]);
         if !next.ok {
             return 0;
         }
@@ -78,7 +78,7 @@ pub extern "C" fn loop_i64_checked_mul(xs: &[i64]) -> i64 {
 pub extern "C" fn loop_i64_wrapping_add(xs: &[i64]) -> i64 {
     let mut sum: i64 = 0;
     for i in 0..xs.len() {
-        sum = signed64::wrapping_add(sum, xs[i]);
+        sum = signed64_sums::wrapping_add(sum, xs[i]);
     }
     sum
 }
@@ -87,7 +87,7 @@ pub extern "C" fn loop_i64_wrapping_add(xs: &[i64]) -> i64 {
 pub extern "C" fn loop_i64_wrapping_mul(xs: &[i64]) -> i64 {
     let mut product: i64 = 1;
     for i in 0..xs.len() {
-        product = signed64::wrapping_mul(product, xs[i]);
+        product = signed64_sums::wrapping_mul(product, xs[i]);
     }
     product
 }
@@ -98,7 +98,7 @@ pub extern "C" fn loop_i64_wrapping_mul(xs: &[i64]) -> i64 {
 pub extern "C" fn loop_u32_checked_add(xs: &[u32]) -> u32 {
     let mut sum: u32 = 0;
     for i in 0..xs.len() {
-        let next = unsigned32::checked_add(sum, xs[i]);
+        let next = unsigned32_sums::checked_add(sum, xs[i]);
         if !next.ok {
             return 0;
         }
@@ -111,7 +111,7 @@ pub extern "C" fn loop_u32_checked_add(xs: &[u32]) -> u32 {
 pub extern "C" fn loop_u32_checked_mul(xs: &[u32]) -> u32 {
     let mut product: u32 = 1;
     for i in 0..xs.len() {
-        let next = unsigned32::checked_mul(product, xs[i]);
+        let next = unsigned32_sums::checked_mul(product, xs[i]);
         if !next.ok {
             return 0;
         }
@@ -124,7 +124,7 @@ pub extern "C" fn loop_u32_checked_mul(xs: &[u32]) -> u32 {
 pub extern "C" fn loop_u32_wrapping_add(xs: &[u32]) -> u32 {
     let mut sum: u32 = 0;
     for i in 0..xs.len() {
-        sum = unsigned32::wrapping_add(sum, xs[i]);
+        sum = unsigned32_sums::wrapping_add(sum, xs[i]);
     }
     sum
 }
@@ -133,7 +133,7 @@ pub extern "C" fn loop_u32_wrapping_add(xs: &[u32]) -> u32 {
 pub extern "C" fn loop_u32_wrapping_mul(xs: &[u32]) -> u32 {
     let mut product: u32 = 1;
     for i in 0..xs.len() {
-        product = unsigned32::wrapping_mul(product, xs[i]);
+        product = unsigned32_sums::wrapping_mul(product, xs[i]);
     }
     product
 }
@@ -142,7 +142,7 @@ pub extern "C" fn loop_u32_wrapping_mul(xs: &[u32]) -> u32 {
 pub extern "C" fn loop_u32_saturating_add(xs: &[u32]) -> u32 {
     let mut sum: u32 = 0;
     for i in 0..xs.len() {
-        sum = unsigned32::saturating_add(sum, xs[i]);
+        sum = unsigned32_sums::saturating_add(sum, xs[i]);
     }
     sum
 }
@@ -151,7 +151,7 @@ pub extern "C" fn loop_u32_saturating_add(xs: &[u32]) -> u32 {
 pub extern "C" fn loop_u32_saturating_mul(xs: &[u32]) -> u32 {
     let mut product: u32 = 1;
     for i in 0..xs.len() {
-        product = unsigned32::saturating_mul(product, xs[i]);
+        product = unsigned32_sums::saturating_mul(product, xs[i]);
     }
     product
 }
@@ -162,7 +162,7 @@ pub extern "C" fn loop_u32_saturating_mul(xs: &[u32]) -> u32 {
 pub extern "C" fn loop_u64_checked_add(xs: &[u64]) -> u64 {
     let mut sum: u64 = 0;
     for i in 0..xs.len() {
-        let next = unsigned64::checked_add(sum, xs[i]);
+        let next = unsigned64_sums::checked_add(sum, xs[i]);
         if !next.ok {
             return 0;
         }
@@ -175,7 +175,7 @@ pub extern "C" fn loop_u64_checked_add(xs: &[u64]) -> u64 {
 pub extern "C" fn loop_u64_checked_mul(xs: &[u64]) -> u64 {
     let mut product: u64 = 1;
     for i in 0..xs.len() {
-        let next = unsigned64::checked_mul(product, xs[i]);
+        let next = unsigned64_sums::checked_mul(product, xs[i]);
         if !next.ok {
             return 0;
         }
@@ -188,7 +188,7 @@ pub extern "C" fn loop_u64_checked_mul(xs: &[u64]) -> u64 {
 pub extern "C" fn loop_u64_wrapping_add(xs: &[u64]) -> u64 {
     let mut sum: u64 = 0;
     for i in 0..xs.len() {
-        sum = unsigned64::wrapping_add(sum, xs[i]);
+        sum = unsigned64_sums::wrapping_add(sum, xs[i]);
     }
     sum
 }
@@ -197,7 +197,7 @@ pub extern "C" fn loop_u64_wrapping_add(xs: &[u64]) -> u64 {
 pub extern "C" fn loop_u64_wrapping_mul(xs: &[u64]) -> u64 {
     let mut product: u64 = 1;
     for i in 0..xs.len() {
-        product = unsigned64::wrapping_mul(product, xs[i]);
+        product = unsigned64_sums::wrapping_mul(product, xs[i]);
     }
     product
 }
@@ -206,7 +206,7 @@ pub extern "C" fn loop_u64_wrapping_mul(xs: &[u64]) -> u64 {
 pub extern "C" fn loop_u64_saturating_add(xs: &[u64]) -> u64 {
     let mut sum: u64 = 0;
     for i in 0..xs.len() {
-        sum = unsigned64::saturating_add(sum, xs[i]);
+        sum = unsigned64_sums::saturating_add(sum, xs[i]);
     }
     sum
 }
@@ -215,7 +215,7 @@ pub extern "C" fn loop_u64_saturating_add(xs: &[u64]) -> u64 {
 pub extern "C" fn loop_u64_saturating_mul(xs: &[u64]) -> u64 {
     let mut product: u64 = 1;
     for i in 0..xs.len() {
-        product = unsigned64::saturating_mul(product, xs[i]);
+        product = unsigned64_sums::saturating_mul(product, xs[i]);
     }
     product
 }
@@ -226,7 +226,7 @@ pub extern "C" fn loop_u64_saturating_mul(xs: &[u64]) -> u64 {
 pub extern "C" fn loop_u64_leading_zeros(xs: &[u64]) -> u32 {
     let mut sum: u32 = 0;
     for i in 0..xs.len() {
-        sum = unsigned32::wrapping_add(sum, zeros::leading_zeros_u64(xs[i]));
+        sum = unsigned32_sums::wrapping_add(sum, zeros::leading_zeros_u64(xs[i]));
     }
     sum
 }
@@ -235,7 +235,7 @@ pub extern "C" fn loop_u64_leading_zeros(xs: &[u64]) -> u32 {
 pub extern "C" fn loop_u64_trailing_zeros(xs: &[u64]) -> u32 {
     let mut sum: u32 = 0;
     for i in 0..xs.len() {
-        sum = unsigned32::wrapping_add(sum, zeros::trailing_zeros_u64(xs[i]));
+        sum = unsigned32_sums::wrapping_add(sum, zeros::trailing_zeros_u64(xs[i]));
     }
     sum
 }
@@ -247,7 +247,10 @@ pub extern "C" fn loop_u64_from_le_bytes(s: &[u8]) -> u64 {
     let mut sum: u64 = 0;
     let mut at: usize = 0;
     while s.len() - at >= 8 {
-        sum = unsigned64::wrapping_add(sum, number_bytes64::from_le_bytes(&s[at..at + 8]).value);
+        sum = unsigned64_sums::wrapping_add(
+            sum,
+            number_bytes64::from_le_bytes(&s[at..at + 8]).value,
+        );
         at += 8;
     }
     sum
@@ -258,7 +261,10 @@ pub extern "C" fn loop_u64_from_be_bytes(s: &[u8]) -> u64 {
     let mut sum: u64 = 0;
     let mut at: usize = 0;
     while s.len() - at >= 8 {
-        sum = unsigned64::wrapping_add(sum, number_bytes64::from_be_bytes(&s[at..at + 8]).value);
+        sum = unsigned64_sums::wrapping_add(
+            sum,
+            number_bytes64::from_be_bytes(&s[at..at + 8]).value,
+        );
         at += 8;
     }
     sum
@@ -273,7 +279,7 @@ pub extern "C" fn loop_u64_to_le_bytes(step: u64, s: &mut [u8]) -> u64 {
     let mut at: usize = 0;
     while size - at >= 8 {
         number_bytes64::write_le_bytes(s, at, x);
-        x = unsigned64::wrapping_add(x, step);
+        x = unsigned64_sums::wrapping_add(x, step);
         at += 8;
     }
     x
@@ -286,7 +292,7 @@ pub extern "C" fn loop_u64_to_be_bytes(step: u64, s: &mut [u8]) -> u64 {
     let mut at: usize = 0;
     while size - at >= 8 {
         number_bytes64::write_be_bytes(s, at, x);
-        x = unsigned64::wrapping_add(x, step);
+        x = unsigned64_sums::wrapping_add(x, step);
         at += 8;
     }
     x

@@ -1,4 +1,5 @@
-// Numbers written as decimal text at a place of a slice (theory_decimal): 64 bits, which every other kind goes by, and then each of those. No function asks anything of its caller.
+// Numbers written as decimal text at a place of a slice (theory_decimal): 64 bits, which every other kind goes by, and then each of those. No function asks
+// anything of its caller.
 ghost use mathlib.Core.Path.{_≡_};
 ghost use Prim.Native.Nat.{_+_, _≤_, _<_, _^_};
 ghost use lib.ListN.{length};
@@ -50,12 +51,12 @@ fn put(out: &mut [u8], at: usize, count: usize, n: u64)
     while at + 1 < place {
         let pair = (left % 100) as u8;
         place -= 2;
-        out[place + 1] = 0x30 + pair % 10;
-        out[place] = 0x30 + pair / 10;
+        out[place + 1] = b'0' + pair % 10;
+        out[place] = b'0' + pair / 10;
         left = left / 100;
     }
     if at < place {
-        out[at] = 0x30 + left as u8;
+        out[at] = b'0' + left as u8;
     }
 }
 
@@ -101,7 +102,7 @@ fn write_with_sign(out: &mut [u8], at: usize, negative: bool, magnitude: u64) ->
             value: 0,
         };
     }
-    out[at] = 0x2d;
+    out[at] = b'-';
     put(out, at + 1, count, magnitude);
     Length {
         ok: true,
@@ -118,7 +119,7 @@ pub fn write_u8(out: &mut [u8], at: usize, x: u8) -> Length
 pub fn write_i8(out: &mut [u8], at: usize, x: i8) -> Length
     ensures { λ r. ⌜ text.Shows (r .ok) (r .value) (now (out .entry)) at (text.whole x) (now (out .exit)) ⌝ }
 {
-    write_with_sign(out, at, x < 0, signed8_sign::magnitude(x) as u64)
+    write_with_sign(out, at, x < 0, signed8_order::magnitude(x) as u64)
 }
 
 pub fn write_u16(out: &mut [u8], at: usize, x: u16) -> Length
@@ -130,7 +131,7 @@ pub fn write_u16(out: &mut [u8], at: usize, x: u16) -> Length
 pub fn write_i16(out: &mut [u8], at: usize, x: i16) -> Length
     ensures { λ r. ⌜ text.Shows (r .ok) (r .value) (now (out .entry)) at (text.whole x) (now (out .exit)) ⌝ }
 {
-    write_with_sign(out, at, x < 0, signed16_sign::magnitude(x) as u64)
+    write_with_sign(out, at, x < 0, signed16_order::magnitude(x) as u64)
 }
 
 pub fn write_u32(out: &mut [u8], at: usize, x: u32) -> Length
@@ -142,13 +143,13 @@ pub fn write_u32(out: &mut [u8], at: usize, x: u32) -> Length
 pub fn write_i32(out: &mut [u8], at: usize, x: i32) -> Length
     ensures { λ r. ⌜ text.Shows (r .ok) (r .value) (now (out .entry)) at (text.whole x) (now (out .exit)) ⌝ }
 {
-    write_with_sign(out, at, x < 0, signed32_sign::magnitude(x) as u64)
+    write_with_sign(out, at, x < 0, signed32_order::magnitude(x) as u64)
 }
 
 pub fn write_i64(out: &mut [u8], at: usize, x: i64) -> Length
     ensures { λ r. ⌜ text.Shows (r .ok) (r .value) (now (out .entry)) at (text.whole x) (now (out .exit)) ⌝ }
 {
-    write_with_sign(out, at, x < 0, signed64_sign::magnitude(x) as u64)
+    write_with_sign(out, at, x < 0, signed64_order::magnitude(x) as u64)
 }
 
 pub fn write_usize(out: &mut [u8], at: usize, x: usize) -> Length
@@ -160,5 +161,5 @@ pub fn write_usize(out: &mut [u8], at: usize, x: usize) -> Length
 pub fn write_isize(out: &mut [u8], at: usize, x: isize) -> Length
     ensures { λ r. ⌜ text.Shows (r .ok) (r .value) (now (out .entry)) at (text.whole x) (now (out .exit)) ⌝ }
 {
-    write_with_sign(out, at, x < 0, signed_size_sign::magnitude(x) as u64)
+    write_with_sign(out, at, x < 0, signed_size_order::magnitude(x) as u64)
 }

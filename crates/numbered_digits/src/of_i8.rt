@@ -1,8 +1,8 @@
 // The operations of i8 that take or answer bytes by their numbers, as the faces export them.
 use numbered::Answer;
 use numbered::Numbers;
-use signed8 as own;
-use unsigned8 as other;
+use signed8_sums as own;
+use unsigned8_sums as other;
 
 pub fn run(operation: u8, s: &mut [u8], n: Numbers) -> Answer {
     let first = n.first;
@@ -30,7 +30,7 @@ fn reading(operation: u8, s: &[u8], n: Numbers) -> Answer {
     }
 }
 
-fn as_checked(r: signed8::Checked) -> Answer {
+fn as_checked(r: signed8_sums::Checked) -> Answer {
     numbered::parts(r.ok, other::wrapped(r.value) as u64, 0, 0)
 }
 

@@ -1,8 +1,8 @@
 // The operations of isize that take or answer bytes by their numbers, as the faces export them.
 use numbered::Answer;
 use numbered::Numbers;
-use signed_size as own;
-use unsigned_size as other;
+use signed_size_sums as own;
+use unsigned_size_sums as other;
 
 pub fn run(operation: u8, s: &mut [u8], n: Numbers) -> Answer {
     let first = n.first;
@@ -30,7 +30,7 @@ fn reading(operation: u8, s: &[u8], n: Numbers) -> Answer {
     }
 }
 
-fn as_checked(r: signed_size::Checked) -> Answer {
+fn as_checked(r: signed_size_sums::Checked) -> Answer {
     numbered::parts(r.ok, other::wrapped(r.value) as u64, 0, 0)
 }
 

@@ -28,7 +28,7 @@ fn reading(operation: u8, s: &[u8], n: Numbers) -> Answer {
     }
 }
 
-fn as_checked(r: unsigned_size::Checked) -> Answer {
+fn as_checked(r: unsigned_size_sums::Checked) -> Answer {
     numbered::parts(r.ok, r.value as u64, 0, 0)
 }
 

@@ -1,8 +1,8 @@
 // The operations of i8 on numbers alone by their numbers (crate `numbered`), as the faces export them (written by generate/ from the table of operations).
 use numbered::Answer;
 use numbered::Numbers;
-use signed8 as own;
-use unsigned8 as other;
+use signed8_sums as own;
+use unsigned8_sums as other;
 
 // Arguments are cut down to their kind's width.
 pub fn run(operation: u8, n: Numbers) -> Answer {
@@ -90,7 +90,7 @@ fn as_number(r: i8) -> Answer {
     numbered::found(other::wrapped(r) as u64)
 }
 
-fn as_checked(r: signed8::Checked) -> Answer {
+fn as_checked(r: signed8_sums::Checked) -> Answer {
     numbered::parts(r.ok, other::wrapped(r.value) as u64, 0, 0)
 }
 

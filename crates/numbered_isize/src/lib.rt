@@ -1,8 +1,8 @@
 // The operations of isize on numbers alone by their numbers (crate `numbered`), as the faces export them (written by generate/ from the table of operations).
 use numbered::Answer;
 use numbered::Numbers;
-use signed_size as own;
-use unsigned_size as other;
+use signed_size_sums as own;
+use unsigned_size_sums as other;
 
 // Arguments are cut down to their kind's width.
 pub fn run(operation: u8, n: Numbers) -> Answer {
@@ -94,7 +94,7 @@ fn as_number(r: isize) -> Answer {
     numbered::found(other::wrapped(r) as u64)
 }
 
-fn as_checked(r: signed_size::Checked) -> Answer {
+fn as_checked(r: signed_size_sums::Checked) -> Answer {
     numbered::parts(r.ok, other::wrapped(r.value) as u64, 0, 0)
 }
 

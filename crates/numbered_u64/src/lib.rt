@@ -1,7 +1,7 @@
 // The operations of u64 on numbers alone by their numbers (crate `numbered`), as the faces export them (written by generate/ from the table of operations).
 use numbered::Answer;
 use numbered::Numbers;
-use signed64 as other;
+use signed64_sums as other;
 
 // Arguments are cut down to their kind's width.
 pub fn run(operation: u8, n: Numbers) -> Answer {
@@ -101,7 +101,7 @@ fn as_number(r: u64) -> Answer {
     numbered::found(r)
 }
 
-fn as_checked(r: unsigned64::Checked) -> Answer {
+fn as_checked(r: unsigned64_sums::Checked) -> Answer {
     numbered::parts(r.ok, r.value, 0, 0)
 }
 

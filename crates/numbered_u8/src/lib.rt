@@ -1,7 +1,7 @@
 // The operations of u8 on numbers alone by their numbers (crate `numbered`), as the faces export them (written by generate/ from the table of operations).
 use numbered::Answer;
 use numbered::Numbers;
-use signed8 as other;
+use signed8_sums as other;
 
 // Arguments are cut down to their kind's width.
 pub fn run(operation: u8, n: Numbers) -> Answer {
@@ -99,7 +99,7 @@ fn as_number(r: u8) -> Answer {
     numbered::found(r as u64)
 }
 
-fn as_checked(r: unsigned8::Checked) -> Answer {
+fn as_checked(r: unsigned8_sums::Checked) -> Answer {
     numbered::parts(r.ok, r.value as u64, 0, 0)
 }
 

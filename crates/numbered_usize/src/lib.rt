@@ -1,7 +1,7 @@
 // The operations of usize on numbers alone by their numbers (crate `numbered`), as the faces export them (written by generate/ from the table of operations).
 use numbered::Answer;
 use numbered::Numbers;
-use signed_size as other;
+use signed_size_sums as other;
 
 // Arguments are cut down to their kind's width.
 pub fn run(operation: u8, n: Numbers) -> Answer {
@@ -91,7 +91,7 @@ fn as_number(r: usize) -> Answer {
     numbered::found(r as u64)
 }
 
-fn as_checked(r: unsigned_size::Checked) -> Answer {
+fn as_checked(r: unsigned_size_sums::Checked) -> Answer {
     numbered::parts(r.ok, r.value as u64, 0, 0)
 }
 

@@ -8,7 +8,7 @@ ghost use Rattle.theory_decimal.specs.Read as said;
 // ---- 8 bits
 
 #[no_mangle]
-pub extern "C" fn pb_u8_read_decimal(s: &[u8], from: usize, to: usize) -> unsigned8::Checked
+pub extern "C" fn pb_u8_read_decimal(s: &[u8], from: usize, to: usize) -> unsigned8_sums::Checked
     ensures { λ r. ⌜ Answers (r .ok) (pos (r .value)) (said.naturalIn (unsigned 8) from to (now (s .entry))) ⌝ }
 {
     decimal_read::read_u8(s, from, to)
@@ -22,7 +22,7 @@ pub extern "C" fn pb_u8_write_decimal(x: u8, s: &mut [u8], at: usize) -> decimal
 }
 
 #[no_mangle]
-pub extern "C" fn pb_i8_read_decimal(s: &[u8], from: usize, to: usize) -> signed8::Checked
+pub extern "C" fn pb_i8_read_decimal(s: &[u8], from: usize, to: usize) -> signed8_sums::Checked
     ensures { λ r. ⌜ Answers (r .ok) (r .value) (said.wholeIn (signed 8) from to (now (s .entry))) ⌝ }
 {
     decimal_read_signed::read_i8(s, from, to)
@@ -38,7 +38,7 @@ pub extern "C" fn pb_i8_write_decimal(x: i8, s: &mut [u8], at: usize) -> decimal
 // ---- 16 bits
 
 #[no_mangle]
-pub extern "C" fn pb_u16_read_decimal(s: &[u8], from: usize, to: usize) -> unsigned16::Checked
+pub extern "C" fn pb_u16_read_decimal(s: &[u8], from: usize, to: usize) -> unsigned16_sums::Checked
     ensures { λ r. ⌜ Answers (r .ok) (pos (r .value)) (said.naturalIn (unsigned 16) from to (now (s .entry))) ⌝ }
 {
     decimal_read::read_u16(s, from, to)
@@ -52,7 +52,7 @@ pub extern "C" fn pb_u16_write_decimal(x: u16, s: &mut [u8], at: usize) -> decim
 }
 
 #[no_mangle]
-pub extern "C" fn pb_i16_read_decimal(s: &[u8], from: usize, to: usize) -> signed16::Checked
+pub extern "C" fn pb_i16_read_decimal(s: &[u8], from: usize, to: usize) -> signed16_sums::Checked
     ensures { λ r. ⌜ Answers (r .ok) (r .value) (said.wholeIn (signed 16) from to (now (s .entry))) ⌝ }
 {
     decimal_read_signed::read_i16(s, from, to)
@@ -68,7 +68,7 @@ pub extern "C" fn pb_i16_write_decimal(x: i16, s: &mut [u8], at: usize) -> decim
 // ---- 32 bits
 
 #[no_mangle]
-pub extern "C" fn pb_u32_read_decimal(s: &[u8], from: usize, to: usize) -> unsigned32::Checked
+pub extern "C" fn pb_u32_read_decimal(s: &[u8], from: usize, to: usize) -> unsigned32_sums::Checked
     ensures { λ r. ⌜ Answers (r .ok) (pos (r .value)) (said.naturalIn (unsigned 32) from to (now (s .entry))) ⌝ }
 {
     decimal_read::read_u32(s, from, to)
@@ -82,7 +82,7 @@ pub extern "C" fn pb_u32_write_decimal(x: u32, s: &mut [u8], at: usize) -> decim
 }
 
 #[no_mangle]
-pub extern "C" fn pb_i32_read_decimal(s: &[u8], from: usize, to: usize) -> signed32::Checked
+pub extern "C" fn pb_i32_read_decimal(s: &[u8], from: usize, to: usize) -> signed32_sums::Checked
     ensures { λ r. ⌜ Answers (r .ok) (r .value) (said.wholeIn (signed 32) from to (now (s .entry))) ⌝ }
 {
     decimal_read_signed::read_i32(s, from, to)
@@ -98,7 +98,7 @@ pub extern "C" fn pb_i32_write_decimal(x: i32, s: &mut [u8], at: usize) -> decim
 // ---- 64 bits
 
 #[no_mangle]
-pub extern "C" fn pb_u64_read_decimal(s: &[u8], from: usize, to: usize) -> unsigned64::Checked
+pub extern "C" fn pb_u64_read_decimal(s: &[u8], from: usize, to: usize) -> unsigned64_sums::Checked
     ensures { λ r. ⌜ Answers (r .ok) (pos (r .value)) (said.naturalIn (unsigned 64) from to (now (s .entry))) ⌝ }
 {
     decimal_read::read_u64(s, from, to)
@@ -112,7 +112,7 @@ pub extern "C" fn pb_u64_write_decimal(x: u64, s: &mut [u8], at: usize) -> decim
 }
 
 #[no_mangle]
-pub extern "C" fn pb_i64_read_decimal(s: &[u8], from: usize, to: usize) -> signed64::Checked
+pub extern "C" fn pb_i64_read_decimal(s: &[u8], from: usize, to: usize) -> signed64_sums::Checked
     ensures { λ r. ⌜ Answers (r .ok) (r .value) (said.wholeIn (signed 64) from to (now (s .entry))) ⌝ }
 {
     decimal_read_signed::read_i64(s, from, to)
@@ -128,7 +128,11 @@ pub extern "C" fn pb_i64_write_decimal(x: i64, s: &mut [u8], at: usize) -> decim
 // ---- the size type
 
 #[no_mangle]
-pub extern "C" fn pb_usize_read_decimal(s: &[u8], from: usize, to: usize) -> unsigned_size::Checked
+pub extern "C" fn pb_usize_read_decimal(
+    s: &[u8],
+    from: usize,
+    to: usize,
+) -> unsigned_size_sums::Checked
     ensures { λ r. ⌜ Answers (r .ok) (pos (r .value)) (said.naturalIn (unsigned 64) from to (now (s .entry))) ⌝ }
 {
     decimal_read::read_usize(s, from, to)
@@ -142,7 +146,11 @@ pub extern "C" fn pb_usize_write_decimal(x: usize, s: &mut [u8], at: usize) -> d
 }
 
 #[no_mangle]
-pub extern "C" fn pb_isize_read_decimal(s: &[u8], from: usize, to: usize) -> signed_size::Checked
+pub extern "C" fn pb_isize_read_decimal(
+    s: &[u8],
+    from: usize,
+    to: usize,
+) -> signed_size_sums::Checked
     ensures { λ r. ⌜ Answers (r .ok) (r .value) (said.wholeIn (signed 64) from to (now (s .entry))) ⌝ }
 {
     decimal_read_signed::read_isize(s, from, to)

@@ -10,102 +10,102 @@ ghost use Rattle.vstd_integers.specs.Compare.{clone, eq, ne, cmp, lt, le, gt, g
 pub extern "C" fn pb_i64_wrapping_add(x: i64, y: i64) -> i64
     ensures { λ r. ⌜ r ≡ wrapping-add 64 x y ⌝ }
 {
-    signed64::wrapping_add(x, y)
+    signed64_sums::wrapping_add(x, y)
 }
 
 #[no_mangle]
 pub extern "C" fn pb_i64_wrapping_add_unsigned(x: i64, y: u64) -> i64
     ensures { λ r. ⌜ r ≡ wrapping-add-unsigned 64 x (pos y) ⌝ }
 {
-    signed64::wrapping_add_unsigned(x, y)
+    signed64_sums::wrapping_add_unsigned(x, y)
 }
 
 #[no_mangle]
 pub extern "C" fn pb_i64_wrapping_sub(x: i64, y: i64) -> i64
     ensures { λ r. ⌜ r ≡ wrapping-sub 64 x y ⌝ }
 {
-    signed64::wrapping_sub(x, y)
+    signed64_sums::wrapping_sub(x, y)
 }
 
 #[no_mangle]
 pub extern "C" fn pb_i64_wrapping_mul(x: i64, y: i64) -> i64
     ensures { λ r. ⌜ r ≡ wrapping-mul 64 x y ⌝ }
 {
-    signed64::wrapping_mul(x, y)
+    signed64_sums::wrapping_mul(x, y)
 }
 
 #[no_mangle]
 pub extern "C" fn pb_i64_wrapping_shl(x: i64, rhs: u32) -> i64
     ensures { λ r. ⌜ r ≡ wrapping-shl 64 x rhs ⌝ }
 {
-    signed64_division::wrapping_shl(x, rhs)
+    signed64_bits::wrapping_shl(x, rhs)
 }
 
 #[no_mangle]
 pub extern "C" fn pb_i64_wrapping_shr(x: i64, rhs: u32) -> i64
     ensures { λ r. ⌜ r ≡ wrapping-shr 64 x rhs ⌝ }
 {
-    signed64_division::wrapping_shr(x, rhs)
+    signed64_bits::wrapping_shr(x, rhs)
 }
 
 #[no_mangle]
-pub extern "C" fn pb_i64_checked_add(x: i64, y: i64) -> signed64::Checked
+pub extern "C" fn pb_i64_checked_add(x: i64, y: i64) -> signed64_sums::Checked
     ensures { λ r. ⌜ Answers (r .ok) (r .value) (checked-add 64 x y) ⌝ }
 {
-    signed64::checked_add(x, y)
+    signed64_sums::checked_add(x, y)
 }
 
 #[no_mangle]
-pub extern "C" fn pb_i64_checked_add_unsigned(x: i64, y: u64) -> signed64::Checked
+pub extern "C" fn pb_i64_checked_add_unsigned(x: i64, y: u64) -> signed64_sums::Checked
     ensures { λ r. ⌜ Answers (r .ok) (r .value) (checked-add-unsigned 64 x (pos y)) ⌝ }
 {
-    signed64::checked_add_unsigned(x, y)
+    signed64_sums::checked_add_unsigned(x, y)
 }
 
 #[no_mangle]
-pub extern "C" fn pb_i64_checked_sub(x: i64, y: i64) -> signed64::Checked
+pub extern "C" fn pb_i64_checked_sub(x: i64, y: i64) -> signed64_sums::Checked
     ensures { λ r. ⌜ Answers (r .ok) (r .value) (checked-sub 64 x y) ⌝ }
 {
-    signed64::checked_sub(x, y)
+    signed64_sums::checked_sub(x, y)
 }
 
 #[no_mangle]
-pub extern "C" fn pb_i64_checked_sub_unsigned(x: i64, y: u64) -> signed64::Checked
+pub extern "C" fn pb_i64_checked_sub_unsigned(x: i64, y: u64) -> signed64_sums::Checked
     ensures { λ r. ⌜ Answers (r .ok) (r .value) (checked-sub-unsigned 64 x (pos y)) ⌝ }
 {
-    signed64::checked_sub_unsigned(x, y)
+    signed64_sums::checked_sub_unsigned(x, y)
 }
 
 #[no_mangle]
-pub extern "C" fn pb_i64_checked_mul(x: i64, y: i64) -> signed64::Checked
+pub extern "C" fn pb_i64_checked_mul(x: i64, y: i64) -> signed64_sums::Checked
     ensures { λ r. ⌜ Answers (r .ok) (r .value) (checked-mul 64 x y) ⌝ }
 {
-    signed64::checked_mul(x, y)
+    signed64_sums::checked_mul(x, y)
 }
 
 #[no_mangle]
-pub extern "C" fn pb_i64_checked_div(x: i64, y: i64) -> signed64::Checked
+pub extern "C" fn pb_i64_checked_div(x: i64, y: i64) -> signed64_sums::Checked
     ensures { λ r. ⌜ Answers (r .ok) (r .value) (checked-div 64 x y) ⌝ }
 {
     signed64_division::checked_div(x, y)
 }
 
 #[no_mangle]
-pub extern "C" fn pb_i64_checked_div_euclid(x: i64, y: i64) -> signed64::Checked
+pub extern "C" fn pb_i64_checked_div_euclid(x: i64, y: i64) -> signed64_sums::Checked
     ensures { λ r. ⌜ Answers (r .ok) (r .value) (checked-div-euclid 64 x y) ⌝ }
 {
     signed64_division::checked_div_euclid(x, y)
 }
 
 #[no_mangle]
-pub extern "C" fn pb_i64_checked_rem(x: i64, y: i64) -> signed64::Checked
+pub extern "C" fn pb_i64_checked_rem(x: i64, y: i64) -> signed64_sums::Checked
     ensures { λ r. ⌜ Answers (r .ok) (r .value) (checked-rem 64 x y) ⌝ }
 {
     signed64_division::checked_rem(x, y)
 }
 
 #[no_mangle]
-pub extern "C" fn pb_i64_checked_rem_euclid(x: i64, y: i64) -> signed64::Checked
+pub extern "C" fn pb_i64_checked_rem_euclid(x: i64, y: i64) -> signed64_sums::Checked
     ensures { λ r. ⌜ Answers (r .ok) (r .value) (checked-rem-euclid 64 x y) ⌝ }
 {
     signed64_division::checked_rem_euclid(x, y)
@@ -122,49 +122,49 @@ pub extern "C" fn pb_i64_clone(x: i64) -> i64
 pub extern "C" fn pb_i64_eq(x: i64, y: i64) -> bool
     ensures { λ r. ⌜ r ≡ eq x y ⌝ }
 {
-    ordering::is_eq(signed64_sign::compare(x, y))
+    ordering::is_eq(signed64_order::compare(x, y))
 }
 
 #[no_mangle]
 pub extern "C" fn pb_i64_ne(x: i64, y: i64) -> bool
     ensures { λ r. ⌜ r ≡ ne x y ⌝ }
 {
-    ordering::is_ne(signed64_sign::compare(x, y))
+    ordering::is_ne(signed64_order::compare(x, y))
 }
 
 #[no_mangle]
 pub extern "C" fn pb_i64_lt(x: i64, y: i64) -> bool
     ensures { λ r. ⌜ r ≡ lt x y ⌝ }
 {
-    ordering::is_lt(signed64_sign::compare(x, y))
+    ordering::is_lt(signed64_order::compare(x, y))
 }
 
 #[no_mangle]
 pub extern "C" fn pb_i64_le(x: i64, y: i64) -> bool
     ensures { λ r. ⌜ r ≡ le x y ⌝ }
 {
-    ordering::is_le(signed64_sign::compare(x, y))
+    ordering::is_le(signed64_order::compare(x, y))
 }
 
 #[no_mangle]
 pub extern "C" fn pb_i64_gt(x: i64, y: i64) -> bool
     ensures { λ r. ⌜ r ≡ gt x y ⌝ }
 {
-    ordering::is_gt(signed64_sign::compare(x, y))
+    ordering::is_gt(signed64_order::compare(x, y))
 }
 
 #[no_mangle]
 pub extern "C" fn pb_i64_ge(x: i64, y: i64) -> bool
     ensures { λ r. ⌜ r ≡ ge x y ⌝ }
 {
-    ordering::is_ge(signed64_sign::compare(x, y))
+    ordering::is_ge(signed64_order::compare(x, y))
 }
 
 #[no_mangle]
 pub extern "C" fn pb_i64_cmp(x: i64, y: i64) -> i8
     ensures { λ r. ⌜ r ≡ numbered (cmp x y) ⌝ }
 {
-    ordering::number(signed64_sign::compare(x, y))
+    ordering::number(signed64_order::compare(x, y))
 }
 
 #[no_mangle]
@@ -173,6 +173,6 @@ pub extern "C" fn pb_i64_partial_cmp(x: i64, y: i64) -> ordering::PartialOrderin
 {
     ordering::PartialOrdering {
         ok: true,
-        value: ordering::number(signed64_sign::compare(x, y)),
+        value: ordering::number(signed64_order::compare(x, y)),
     }
 }

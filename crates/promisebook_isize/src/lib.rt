@@ -10,102 +10,102 @@ ghost use Rattle.vstd_integers.specs.Compare.{clone, eq, ne, cmp, lt, le, gt, g
 pub extern "C" fn pb_isize_wrapping_add(x: isize, y: isize) -> isize
     ensures { λ r. ⌜ r ≡ wrapping-add 64 x y ⌝ }
 {
-    signed_size::wrapping_add(x, y)
+    signed_size_sums::wrapping_add(x, y)
 }
 
 #[no_mangle]
 pub extern "C" fn pb_isize_wrapping_add_unsigned(x: isize, y: usize) -> isize
     ensures { λ r. ⌜ r ≡ wrapping-add-unsigned 64 x (pos y) ⌝ }
 {
-    signed_size::wrapping_add_unsigned(x, y)
+    signed_size_sums::wrapping_add_unsigned(x, y)
 }
 
 #[no_mangle]
 pub extern "C" fn pb_isize_wrapping_sub(x: isize, y: isize) -> isize
     ensures { λ r. ⌜ r ≡ wrapping-sub 64 x y ⌝ }
 {
-    signed_size::wrapping_sub(x, y)
+    signed_size_sums::wrapping_sub(x, y)
 }
 
 #[no_mangle]
 pub extern "C" fn pb_isize_wrapping_mul(x: isize, y: isize) -> isize
     ensures { λ r. ⌜ r ≡ wrapping-mul 64 x y ⌝ }
 {
-    signed_size::wrapping_mul(x, y)
+    signed_size_sums::wrapping_mul(x, y)
 }
 
 #[no_mangle]
 pub extern "C" fn pb_isize_wrapping_shl(x: isize, rhs: u32) -> isize
     ensures { λ r. ⌜ r ≡ wrapping-shl 64 x rhs ⌝ }
 {
-    signed_size_division::wrapping_shl(x, rhs)
+    signed_size_bits::wrapping_shl(x, rhs)
 }
 
 #[no_mangle]
 pub extern "C" fn pb_isize_wrapping_shr(x: isize, rhs: u32) -> isize
     ensures { λ r. ⌜ r ≡ wrapping-shr 64 x rhs ⌝ }
 {
-    signed_size_division::wrapping_shr(x, rhs)
+    signed_size_bits::wrapping_shr(x, rhs)
 }
 
 #[no_mangle]
-pub extern "C" fn pb_isize_checked_add(x: isize, y: isize) -> signed_size::Checked
+pub extern "C" fn pb_isize_checked_add(x: isize, y: isize) -> signed_size_sums::Checked
     ensures { λ r. ⌜ Answers (r .ok) (r .value) (checked-add 64 x y) ⌝ }
 {
-    signed_size::checked_add(x, y)
+    signed_size_sums::checked_add(x, y)
 }
 
 #[no_mangle]
-pub extern "C" fn pb_isize_checked_add_unsigned(x: isize, y: usize) -> signed_size::Checked
+pub extern "C" fn pb_isize_checked_add_unsigned(x: isize, y: usize) -> signed_size_sums::Checked
     ensures { λ r. ⌜ Answers (r .ok) (r .value) (checked-add-unsigned 64 x (pos y)) ⌝ }
 {
-    signed_size::checked_add_unsigned(x, y)
+    signed_size_sums::checked_add_unsigned(x, y)
 }
 
 #[no_mangle]
-pub extern "C" fn pb_isize_checked_sub(x: isize, y: isize) -> signed_size::Checked
+pub extern "C" fn pb_isize_checked_sub(x: isize, y: isize) -> signed_size_sums::Checked
     ensures { λ r. ⌜ Answers (r .ok) (r .value) (checked-sub 64 x y) ⌝ }
 {
-    signed_size::checked_sub(x, y)
+    signed_size_sums::checked_sub(x, y)
 }
 
 #[no_mangle]
-pub extern "C" fn pb_isize_checked_sub_unsigned(x: isize, y: usize) -> signed_size::Checked
+pub extern "C" fn pb_isize_checked_sub_unsigned(x: isize, y: usize) -> signed_size_sums::Checked
     ensures { λ r. ⌜ Answers (r .ok) (r .value) (checked-sub-unsigned 64 x (pos y)) ⌝ }
 {
-    signed_size::checked_sub_unsigned(x, y)
+    signed_size_sums::checked_sub_unsigned(x, y)
 }
 
 #[no_mangle]
-pub extern "C" fn pb_isize_checked_mul(x: isize, y: isize) -> signed_size::Checked
+pub extern "C" fn pb_isize_checked_mul(x: isize, y: isize) -> signed_size_sums::Checked
     ensures { λ r. ⌜ Answers (r .ok) (r .value) (checked-mul 64 x y) ⌝ }
 {
-    signed_size::checked_mul(x, y)
+    signed_size_sums::checked_mul(x, y)
 }
 
 #[no_mangle]
-pub extern "C" fn pb_isize_checked_div(x: isize, y: isize) -> signed_size::Checked
+pub extern "C" fn pb_isize_checked_div(x: isize, y: isize) -> signed_size_sums::Checked
     ensures { λ r. ⌜ Answers (r .ok) (r .value) (checked-div 64 x y) ⌝ }
 {
     signed_size_division::checked_div(x, y)
 }
 
 #[no_mangle]
-pub extern "C" fn pb_isize_checked_div_euclid(x: isize, y: isize) -> signed_size::Checked
+pub extern "C" fn pb_isize_checked_div_euclid(x: isize, y: isize) -> signed_size_sums::Checked
     ensures { λ r. ⌜ Answers (r .ok) (r .value) (checked-div-euclid 64 x y) ⌝ }
 {
     signed_size_division::checked_div_euclid(x, y)
 }
 
 #[no_mangle]
-pub extern "C" fn pb_isize_checked_rem(x: isize, y: isize) -> signed_size::Checked
+pub extern "C" fn pb_isize_checked_rem(x: isize, y: isize) -> signed_size_sums::Checked
     ensures { λ r. ⌜ Answers (r .ok) (r .value) (checked-rem 64 x y) ⌝ }
 {
     signed_size_division::checked_rem(x, y)
 }
 
 #[no_mangle]
-pub extern "C" fn pb_isize_checked_rem_euclid(x: isize, y: isize) -> signed_size::Checked
+pub extern "C" fn pb_isize_checked_rem_euclid(x: isize, y: isize) -> signed_size_sums::Checked
     ensures { λ r. ⌜ Answers (r .ok) (r .value) (checked-rem-euclid 64 x y) ⌝ }
 {
     signed_size_division::checked_rem_euclid(x, y)
@@ -122,49 +122,49 @@ pub extern "C" fn pb_isize_clone(x: isize) -> isize
 pub extern "C" fn pb_isize_eq(x: isize, y: isize) -> bool
     ensures { λ r. ⌜ r ≡ eq x y ⌝ }
 {
-    ordering::is_eq(signed_size_sign::compare(x, y))
+    ordering::is_eq(signed_size_order::compare(x, y))
 }
 
 #[no_mangle]
 pub extern "C" fn pb_isize_ne(x: isize, y: isize) -> bool
     ensures { λ r. ⌜ r ≡ ne x y ⌝ }
 {
-    ordering::is_ne(signed_size_sign::compare(x, y))
+    ordering::is_ne(signed_size_order::compare(x, y))
 }
 
 #[no_mangle]
 pub extern "C" fn pb_isize_lt(x: isize, y: isize) -> bool
     ensures { λ r. ⌜ r ≡ lt x y ⌝ }
 {
-    ordering::is_lt(signed_size_sign::compare(x, y))
+    ordering::is_lt(signed_size_order::compare(x, y))
 }
 
 #[no_mangle]
 pub extern "C" fn pb_isize_le(x: isize, y: isize) -> bool
     ensures { λ r. ⌜ r ≡ le x y ⌝ }
 {
-    ordering::is_le(signed_size_sign::compare(x, y))
+    ordering::is_le(signed_size_order::compare(x, y))
 }
 
 #[no_mangle]
 pub extern "C" fn pb_isize_gt(x: isize, y: isize) -> bool
     ensures { λ r. ⌜ r ≡ gt x y ⌝ }
 {
-    ordering::is_gt(signed_size_sign::compare(x, y))
+    ordering::is_gt(signed_size_order::compare(x, y))
 }
 
 #[no_mangle]
 pub extern "C" fn pb_isize_ge(x: isize, y: isize) -> bool
     ensures { λ r. ⌜ r ≡ ge x y ⌝ }
 {
-    ordering::is_ge(signed_size_sign::compare(x, y))
+    ordering::is_ge(signed_size_order::compare(x, y))
 }
 
 #[no_mangle]
 pub extern "C" fn pb_isize_cmp(x: isize, y: isize) -> i8
     ensures { λ r. ⌜ r ≡ numbered (cmp x y) ⌝ }
 {
-    ordering::number(signed_size_sign::compare(x, y))
+    ordering::number(signed_size_order::compare(x, y))
 }
 
 #[no_mangle]
@@ -173,6 +173,6 @@ pub extern "C" fn pb_isize_partial_cmp(x: isize, y: isize) -> ordering::PartialO
 {
     ordering::PartialOrdering {
         ok: true,
-        value: ordering::number(signed_size_sign::compare(x, y)),
+        value: ordering::number(signed_size_order::compare(x, y)),
     }
 }

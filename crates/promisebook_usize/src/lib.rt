@@ -10,102 +10,105 @@ ghost use Rattle.vstd_integers.specs.Compare.{clone, eq, ne, cmp, lt, le, gt, g
 pub extern "C" fn pb_usize_wrapping_add(x: usize, y: usize) -> usize
     ensures { λ r. ⌜ pos r ≡ wrapping-add 64 (pos x) (pos y) ⌝ }
 {
-    unsigned_size::wrapping_add(x, y)
+    unsigned_size_sums::wrapping_add(x, y)
 }
 
 #[no_mangle]
 pub extern "C" fn pb_usize_wrapping_add_signed(x: usize, y: isize) -> usize
     ensures { λ r. ⌜ pos r ≡ wrapping-add-signed 64 (pos x) y ⌝ }
 {
-    unsigned_size::wrapping_add_signed(x, y)
+    unsigned_size_sums::wrapping_add_signed(x, y)
 }
 
 #[no_mangle]
 pub extern "C" fn pb_usize_wrapping_sub(x: usize, y: usize) -> usize
     ensures { λ r. ⌜ pos r ≡ wrapping-sub 64 (pos x) (pos y) ⌝ }
 {
-    unsigned_size::wrapping_sub(x, y)
+    unsigned_size_sums::wrapping_sub(x, y)
 }
 
 #[no_mangle]
 pub extern "C" fn pb_usize_wrapping_mul(x: usize, y: usize) -> usize
     ensures { λ r. ⌜ pos r ≡ wrapping-mul 64 (pos x) (pos y) ⌝ }
 {
-    unsigned_size::wrapping_mul(x, y)
+    unsigned_size_sums::wrapping_mul(x, y)
 }
 
 #[no_mangle]
 pub extern "C" fn pb_usize_wrapping_shl(x: usize, rhs: u32) -> usize
     ensures { λ r. ⌜ pos r ≡ wrapping-shl 64 (pos x) rhs ⌝ }
 {
-    unsigned_size_division::wrapping_shl(x, rhs)
+    unsigned_size_bits::wrapping_shl(x, rhs)
 }
 
 #[no_mangle]
 pub extern "C" fn pb_usize_wrapping_shr(x: usize, rhs: u32) -> usize
     ensures { λ r. ⌜ pos r ≡ wrapping-shr 64 (pos x) rhs ⌝ }
 {
-    unsigned_size_division::wrapping_shr(x, rhs)
+    unsigned_size_bits::wrapping_shr(x, rhs)
 }
 
 #[no_mangle]
-pub extern "C" fn pb_usize_checked_add(x: usize, y: usize) -> unsigned_size::Checked
+pub extern "C" fn pb_usize_checked_add(x: usize, y: usize) -> unsigned_size_sums::Checked
     ensures { λ r. ⌜ Answers (r .ok) (pos (r .value)) (checked-add 64 (pos x) (pos y)) ⌝ }
 {
-    unsigned_size::checked_add(x, y)
+    unsigned_size_sums::checked_add(x, y)
 }
 
 #[no_mangle]
-pub extern "C" fn pb_usize_checked_add_signed(x: usize, y: isize) -> unsigned_size::Checked
+pub extern "C" fn pb_usize_checked_add_signed(x: usize, y: isize) -> unsigned_size_sums::Checked
     ensures { λ r. ⌜ Answers (r .ok) (pos (r .value)) (checked-add-signed 64 (pos x) y) ⌝ }
 {
-    unsigned_size::checked_add_signed(x, y)
+    unsigned_size_sums::checked_add_signed(x, y)
 }
 
 #[no_mangle]
-pub extern "C" fn pb_usize_checked_sub(x: usize, y: usize) -> unsigned_size::Checked
+pub extern "C" fn pb_usize_checked_sub(x: usize, y: usize) -> unsigned_size_sums::Checked
     ensures { λ r. ⌜ Answers (r .ok) (pos (r .value)) (checked-sub 64 (pos x) (pos y)) ⌝ }
 {
-    unsigned_size::checked_sub(x, y)
+    unsigned_size_sums::checked_sub(x, y)
 }
 
 #[no_mangle]
-pub extern "C" fn pb_usize_checked_mul(x: usize, y: usize) -> unsigned_size::Checked
+pub extern "C" fn pb_usize_checked_mul(x: usize, y: usize) -> unsigned_size_sums::Checked
     ensures { λ r. ⌜ Answers (r .ok) (pos (r .value)) (checked-mul 64 (pos x) (pos y)) ⌝ }
 {
-    unsigned_size::checked_mul(x, y)
+    unsigned_size_sums::checked_mul(x, y)
 }
 
 #[no_mangle]
-pub extern "C" fn pb_usize_checked_next_multiple_of(x: usize, y: usize) -> unsigned_size::Checked
+pub extern "C" fn pb_usize_checked_next_multiple_of(
+    x: usize,
+    y: usize,
+) -> unsigned_size_sums::Checked
     ensures { λ r. ⌜ Answers (r .ok) (pos (r .value)) (checked-next-multiple-of 64 (pos x) (pos y)) ⌝ }
 {
     unsigned_size_division::checked_next_multiple_of(x, y)
 }
 
 #[no_mangle]
-pub extern "C" fn pb_usize_checked_div(x: usize, y: usize) -> unsigned_size::Checked
+pub extern "C" fn pb_usize_checked_div(x: usize, y: usize) -> unsigned_size_sums::Checked
     ensures { λ r. ⌜ Answers (r .ok) (pos (r .value)) (checked-div 64 (pos x) (pos y)) ⌝ }
 {
     unsigned_size_division::checked_div(x, y)
 }
 
 #[no_mangle]
-pub extern "C" fn pb_usize_checked_div_euclid(x: usize, y: usize) -> unsigned_size::Checked
+pub extern "C" fn pb_usize_checked_div_euclid(x: usize, y: usize) -> unsigned_size_sums::Checked
     ensures { λ r. ⌜ Answers (r .ok) (pos (r .value)) (checked-div 64 (pos x) (pos y)) ⌝ }
 {
     unsigned_size_division::checked_div_euclid(x, y)
 }
 
 #[no_mangle]
-pub extern "C" fn pb_usize_checked_rem(x: usize, y: usize) -> unsigned_size::Checked
+pub extern "C" fn pb_usize_checked_rem(x: usize, y: usize) -> unsigned_size_sums::Checked
     ensures { λ r. ⌜ Answers (r .ok) (pos (r .value)) (checked-rem 64 (pos x) (pos y)) ⌝ }
 {
     unsigned_size_division::checked_rem(x, y)
 }
 
 #[no_mangle]
-pub extern "C" fn pb_usize_checked_rem_euclid(x: usize, y: usize) -> unsigned_size::Checked
+pub extern "C" fn pb_usize_checked_rem_euclid(x: usize, y: usize) -> unsigned_size_sums::Checked
     ensures { λ r. ⌜ Answers (r .ok) (pos (r .value)) (checked-rem 64 (pos x) (pos y)) ⌝ }
 {
     unsigned_size_division::checked_rem_euclid(x, y)
@@ -115,21 +118,21 @@ pub extern "C" fn pb_usize_checked_rem_euclid(x: usize, y: usize) -> unsigned_si
 pub extern "C" fn pb_usize_saturating_add(x: usize, y: usize) -> usize
     ensures { λ r. ⌜ pos r ≡ saturating-add 64 (pos x) (pos y) ⌝ }
 {
-    unsigned_size::saturating_add(x, y)
+    unsigned_size_sums::saturating_add(x, y)
 }
 
 #[no_mangle]
 pub extern "C" fn pb_usize_saturating_sub(x: usize, y: usize) -> usize
     ensures { λ r. ⌜ pos r ≡ saturating-sub 64 (pos x) (pos y) ⌝ }
 {
-    unsigned_size::saturating_sub(x, y)
+    unsigned_size_sums::saturating_sub(x, y)
 }
 
 #[no_mangle]
 pub extern "C" fn pb_usize_saturating_mul(x: usize, y: usize) -> usize
     ensures { λ r. ⌜ pos r ≡ saturating-mul 64 (pos x) (pos y) ⌝ }
 {
-    unsigned_size::saturating_mul(x, y)
+    unsigned_size_sums::saturating_mul(x, y)
 }
 
 #[no_mangle]
@@ -150,49 +153,49 @@ pub extern "C" fn pb_usize_clone(x: usize) -> usize
 pub extern "C" fn pb_usize_eq(x: usize, y: usize) -> bool
     ensures { λ r. ⌜ r ≡ eq (pos x) (pos y) ⌝ }
 {
-    ordering::is_eq(unsigned_size::compare(x, y))
+    ordering::is_eq(unsigned_size_order::compare(x, y))
 }
 
 #[no_mangle]
 pub extern "C" fn pb_usize_ne(x: usize, y: usize) -> bool
     ensures { λ r. ⌜ r ≡ ne (pos x) (pos y) ⌝ }
 {
-    ordering::is_ne(unsigned_size::compare(x, y))
+    ordering::is_ne(unsigned_size_order::compare(x, y))
 }
 
 #[no_mangle]
 pub extern "C" fn pb_usize_lt(x: usize, y: usize) -> bool
     ensures { λ r. ⌜ r ≡ lt (pos x) (pos y) ⌝ }
 {
-    ordering::is_lt(unsigned_size::compare(x, y))
+    ordering::is_lt(unsigned_size_order::compare(x, y))
 }
 
 #[no_mangle]
 pub extern "C" fn pb_usize_le(x: usize, y: usize) -> bool
     ensures { λ r. ⌜ r ≡ le (pos x) (pos y) ⌝ }
 {
-    ordering::is_le(unsigned_size::compare(x, y))
+    ordering::is_le(unsigned_size_order::compare(x, y))
 }
 
 #[no_mangle]
 pub extern "C" fn pb_usize_gt(x: usize, y: usize) -> bool
     ensures { λ r. ⌜ r ≡ gt (pos x) (pos y) ⌝ }
 {
-    ordering::is_gt(unsigned_size::compare(x, y))
+    ordering::is_gt(unsigned_size_order::compare(x, y))
 }
 
 #[no_mangle]
 pub extern "C" fn pb_usize_ge(x: usize, y: usize) -> bool
     ensures { λ r. ⌜ r ≡ ge (pos x) (pos y) ⌝ }
 {
-    ordering::is_ge(unsigned_size::compare(x, y))
+    ordering::is_ge(unsigned_size_order::compare(x, y))
 }
 
 #[no_mangle]
 pub extern "C" fn pb_usize_cmp(x: usize, y: usize) -> i8
     ensures { λ r. ⌜ r ≡ numbered (cmp (pos x) (pos y)) ⌝ }
 {
-    ordering::number(unsigned_size::compare(x, y))
+    ordering::number(unsigned_size_order::compare(x, y))
 }
 
 #[no_mangle]
@@ -201,6 +204,6 @@ pub extern "C" fn pb_usize_partial_cmp(x: usize, y: usize) -> ordering::PartialO
 {
     ordering::PartialOrdering {
         ok: true,
-        value: ordering::number(unsigned_size::compare(x, y)),
+        value: ordering::number(unsigned_size_order::compare(x, y)),
     }
 }

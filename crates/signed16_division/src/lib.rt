@@ -1,16 +1,11 @@
-// Signed integers of 16 bits: quotients and remainders, and shifts, which multiply and divide by powers of two (theory_whole). No function asks anything of its caller.
-ghost use mathlib.Core.Path.{_≡_};
-ghost use Prim.Native.Nat.{_%_, _^_};
-ghost use lib.IntN.{pos, _*ℤ_};
+// Signed integers of 16 bits: quotients and remainders (theory_whole). No function asks anything of its caller.
 ghost use lib.Signed.{quotZ, remZ};
 ghost use Rattle.theory_whole.specs.Kind.{signed};
 ghost use Rattle.theory_whole.specs.Division.{ediv, emod};
 ghost use Rattle.theory_answers.specs.Answer.{Answers};
-ghost use Rattle.theory_whole.specs.Fit.{wrap, divided};
-use signed16::Checked;
-use signed16::divides;
-
-// ---- quotients and remainders
+ghost use Rattle.theory_whole.specs.Fit.{divided};
+use signed16_sums::Checked;
+use signed16_sums::divides;
 
 pub fn checked_div(a: i16, b: i16) -> Checked
     ensures { λ r. ⌜ Answers (r .ok) (r .value) (divided (signed 16) b (quotZ a b) (quotZ a b)) ⌝ }
@@ -104,18 +99,4 @@ pub fn checked_rem_euclid(a: i16, b: i16) -> Checked
             value: 0,
         }
     }
-}
-
-// ---- shifts
-
-pub fn wrapping_shl(a: i16, distance: u32) -> i16
-    ensures { λ r. ⌜ r ≡ wrap (signed 16) (a *ℤ pos (2 ^ (distance % 16))) ⌝ }
-{
-    a << (distance % 16)
-}
-
-pub fn wrapping_shr(a: i16, distance: u32) -> i16
-    ensures { λ r. ⌜ r ≡ wrap (signed 16) (ediv a (pos (2 ^ (distance % 16)))) ⌝ }
-{
-    a >> (distance % 16)
 }

@@ -1,16 +1,11 @@
-// Signed integers of 32 bits: quotients and remainders, and shifts, which multiply and divide by powers of two (theory_whole). No function asks anything of its caller.
-ghost use mathlib.Core.Path.{_≡_};
-ghost use Prim.Native.Nat.{_%_, _^_};
-ghost use lib.IntN.{pos, _*ℤ_};
+// Signed integers of 32 bits: quotients and remainders (theory_whole). No function asks anything of its caller.
 ghost use lib.Signed.{quotZ, remZ};
 ghost use Rattle.theory_whole.specs.Kind.{signed};
 ghost use Rattle.theory_whole.specs.Division.{ediv, emod};
 ghost use Rattle.theory_answers.specs.Answer.{Answers};
-ghost use Rattle.theory_whole.specs.Fit.{wrap, divided};
-use signed32::Checked;
-use signed32::divides;
-
-// ---- quotients and remainders
+ghost use Rattle.theory_whole.specs.Fit.{divided};
+use signed32_sums::Checked;
+use signed32_sums::divides;
 
 pub fn checked_div(a: i32, b: i32) -> Checked
     ensures { λ r. ⌜ Answers (r .ok) (r .value) (divided (signed 32) b (quotZ a b) (quotZ a b)) ⌝ }
@@ -104,18 +99,4 @@ pub fn checked_rem_euclid(a: i32, b: i32) -> Checked
             value: 0,
         }
     }
-}
-
-// ---- shifts
-
-pub fn wrapping_shl(a: i32, distance: u32) -> i32
-    ensures { λ r. ⌜ r ≡ wrap (signed 32) (a *ℤ pos (2 ^ (distance % 32))) ⌝ }
-{
-    a << (distance % 32)
-}
-
-pub fn wrapping_shr(a: i32, distance: u32) -> i32
-    ensures { λ r. ⌜ r ≡ wrap (signed 32) (ediv a (pos (2 ^ (distance % 32)))) ⌝ }
-{
-    a >> (distance % 32)
 }

@@ -141,7 +141,8 @@ pub fn last(s: &[u8], from: usize, to: usize) -> Byte
 }
 
 pub fn split_first(s: &[u8], from: usize, to: usize) -> FirstAndRest
-    ensures { λ r. ⌜ Outcome (r .ok) (Within from to (now (s .entry)) × (from < to)) ((r .first ≡ getD (part from to (now (s .entry))) 0 0) × (r .from ≡ from + 1) × (r .to ≡ to)) ((r .first ≡ 0) × (r .from ≡ 0) × (r .to ≡ 0)) ⌝ }
+    ensures { λ r. ⌜ Outcome (r .ok) (Within from to (now (s .entry)) × (from < to))
+        ((r .first ≡ getD (part from to (now (s .entry))) 0 0) × (r .from ≡ from + 1) × (r .to ≡ to)) ((r .first ≡ 0) × (r .from ≡ 0) × (r .to ≡ 0)) ⌝ }
 {
     if to < from {
         return NO_FIRST;

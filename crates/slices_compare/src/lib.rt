@@ -30,7 +30,8 @@ pub fn equal(s: &[u8], from: usize, to: usize, other: &[u8]) -> Verdict
 }
 
 pub fn starts_with(s: &[u8], from: usize, to: usize, other: &[u8]) -> Verdict
-    ensures { λ r. ⌜ Outcome (r .ok) (Within from to (now (s .entry))) (Says (r .value) (take (length (now (other .entry))) (part from to (now (s .entry))) ≡ now (other .entry))) (r .value ≡ false) ⌝ }
+    ensures { λ r. ⌜ Outcome (r .ok) (Within from to (now (s .entry)))
+        (Says (r .value) (take (length (now (other .entry))) (part from to (now (s .entry))) ≡ now (other .entry))) (r .value ≡ false) ⌝ }
 {
     if to < from {
         return NO_VERDICT;
@@ -53,7 +54,8 @@ pub fn starts_with(s: &[u8], from: usize, to: usize, other: &[u8]) -> Verdict
 }
 
 pub fn ends_with(s: &[u8], from: usize, to: usize, other: &[u8]) -> Verdict
-    ensures { λ r. ⌜ Outcome (r .ok) (Within from to (now (s .entry))) (Says (r .value) (drop (to - from - length (now (other .entry))) (part from to (now (s .entry))) ≡ now (other .entry))) (r .value ≡ false) ⌝ }
+    ensures { λ r. ⌜ Outcome (r .ok) (Within from to (now (s .entry)))
+        (Says (r .value) (drop (to - from - length (now (other .entry))) (part from to (now (s .entry))) ≡ now (other .entry))) (r .value ≡ false) ⌝ }
 {
     if to < from {
         return NO_VERDICT;

@@ -47,7 +47,8 @@ fn copy_long(d: &mut [u8], at: usize, s: &[u8])
 
 // True; or refused, where from and to are not the ends of a part or other has another length, and nothing is written.
 pub fn copy_from(s: &mut [u8], from: usize, to: usize, other: &[u8]) -> bool
-    ensures { λ r. ⌜ Outcome r (Within from to (now (s .entry)) × (length (now (other .entry)) ≡ to - from)) (now (s .exit) ≡ written (now (s .entry)) from (now (other .entry))) (now (s .exit) ≡ now (s .entry)) ⌝ }
+    ensures { λ r. ⌜ Outcome r (Within from to (now (s .entry)) × (length (now (other .entry)) ≡ to - from))
+        (now (s .exit) ≡ written (now (s .entry)) from (now (other .entry))) (now (s .exit) ≡ now (s .entry)) ⌝ }
 {
     let n = other.len();
     if n < 8 {

@@ -56,7 +56,8 @@ fn move_from_back(d: &mut [u8], from: usize, to: usize, at: usize, size: usize)
     slices_mut::put(d, at, end, &bytes[..size]);
 }
 
-fn move_up(d: &mut [u8], from: usize, to: usize, at: usize)
+// By the largest blocks that the part has, to a place that is not behind.
+fn move_towards_front(d: &mut [u8], from: usize, to: usize, at: usize)
     requires { ⌜ Within from to (now d) × (at ≤ from) × (from < to) ⌝ }
     ensures { λ _. ⌜ now (d .exit) ≡ written (now (d .entry)) at (part from to (now (d .entry))) ⌝ }
 {
@@ -72,7 +73,8 @@ fn move_up(d: &mut [u8], from: usize, to: usize, at: usize)
     }
 }
 
-fn move_down(d: &mut [u8], from: usize, to: usize, at: usize)
+// And to a place that is not before.
+fn move_towards_back(d: &mut [u8], from: usize, to: usize, at: usize)
     requires { ⌜ Within from to (now d) × (from ≤ at) × (at + (to - from) ≤ length (now d)) × (from < to) ⌝ }
     ensures { λ _. ⌜ now (d .exit) ≡ written (now (d .entry)) at (part from to (now (d .entry))) ⌝ }
 {
@@ -91,7 +93,8 @@ fn move_down(d: &mut [u8], from: usize, to: usize, at: usize)
 // The part goes to place `at`, counted from the start of s, as if all of it had been read before anything is written. True; or refused, where from and to are not
 // the ends of a part or the copy would run past the end, and nothing is written.
 pub fn copy_within(s: &mut [u8], from: usize, to: usize, at: usize) -> bool
-    ensures { λ r. ⌜ Outcome r (Within from to (now (s .entry)) × (at + (to - from) ≤ length (now (s .entry)))) (now (s .exit) ≡ written (now (s .entry)) at (part from to (now (s .entry)))) (now (s .exit) ≡ now (s .entry)) ⌝ }
+    ensures { λ r. ⌜ Outcome r (Within from to (now (s .entry)) × (at + (to - from) ≤ length (now (s .entry))))
+        (now (s .exit) ≡ written (now (s .entry)) at (part from to (now (s .entry)))) (now (s .exit) ≡ now (s .entry)) ⌝ }
 {
     if to < from {
         return false;
@@ -107,9 +110,9 @@ pub fn copy_within(s: &mut [u8], from: usize, to: usize, at: usize) -> bool
         return true;
     }
     if at <= from {
-        move_up(s, from, to, at);
+        move_towards_front(s, from, to, at);
         return true;
     }
-    move_down(s, from, to, at);
+    move_towards_back(s, from, to, at);
     true
 }

@@ -49,7 +49,8 @@ pub fn set(s: &mut [u8], from: usize, to: usize, i: usize, v: u8) -> bool
 
 // The bytes of other, one by one, become the part: the plain form of `slices_copy::copy_from`.
 pub fn put(s: &mut [u8], from: usize, to: usize, other: &[u8]) -> bool
-    ensures { λ r. ⌜ Outcome r (Within from to (now (s .entry)) × (length (now (other .entry)) ≡ to - from)) (now (s .exit) ≡ written (now (s .entry)) from (now (other .entry))) (now (s .exit) ≡ now (s .entry)) ⌝ }
+    ensures { λ r. ⌜ Outcome r (Within from to (now (s .entry)) × (length (now (other .entry)) ≡ to - from))
+        (now (s .exit) ≡ written (now (s .entry)) from (now (other .entry))) (now (s .exit) ≡ now (s .entry)) ⌝ }
 {
     if to < from {
         return false;

@@ -1,7 +1,7 @@
 // The numbers of i16 as questions and answers spell them.
 use crate::Number;
-use signed16 as own;
-use unsigned16 as other;
+use signed16_sums as own;
+use unsigned16_sums as other;
 
 pub fn read(s: &[u8], from: usize, to: usize) -> Number {
     let r = promisebook_decimal::pb_i16_read_decimal(s, from, to);

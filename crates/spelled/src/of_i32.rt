@@ -1,7 +1,7 @@
 // The numbers of i32 as questions and answers spell them.
 use crate::Number;
-use signed32 as own;
-use unsigned32 as other;
+use signed32_sums as own;
+use unsigned32_sums as other;
 
 pub fn read(s: &[u8], from: usize, to: usize) -> Number {
     let r = promisebook_decimal::pb_i32_read_decimal(s, from, to);

@@ -1,7 +1,7 @@
 // The numbers of i64 as questions and answers spell them.
 use crate::Number;
-use signed64 as own;
-use unsigned64 as other;
+use signed64_sums as own;
+use unsigned64_sums as other;
 
 pub fn read(s: &[u8], from: usize, to: usize) -> Number {
     let r = promisebook_decimal::pb_i64_read_decimal(s, from, to);

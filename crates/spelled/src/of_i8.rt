@@ -1,7 +1,7 @@
 // The numbers of i8 as questions and answers spell them.
 use crate::Number;
-use signed8 as own;
-use unsigned8 as other;
+use signed8_sums as own;
+use unsigned8_sums as other;
 
 pub fn read(s: &[u8], from: usize, to: usize) -> Number {
     let r = promisebook_decimal::pb_i8_read_decimal(s, from, to);

@@ -1,7 +1,7 @@
 // The numbers of isize as questions and answers spell them.
 use crate::Number;
-use signed_size as own;
-use unsigned_size as other;
+use signed_size_sums as own;
+use unsigned_size_sums as other;
 
 pub fn read(s: &[u8], from: usize, to: usize) -> Number {
     let r = promisebook_decimal::pb_isize_read_decimal(s, from, to);

@@ -2,7 +2,8 @@
 use mathlib.Core.Path.{_≡_, refl, sym, ap, _∙_}
 use mathlib.Core.List.{List, [], _∷_, _++_, reverse, reverse-reverse}
 use Prim.Native.Nat.{ℕ, zero, suc, _+_, _*_, _/_, _%_, _^_, _≤_, _<_}
-use native.Mathlib.Nat.{add-comm, suc-mul, zero-mul, pow-zero, pow-suc, one-le-pow, div-mul-cancel, dvd-of-mod-eq-zero, le-div-iff-mul-le, eq-of-mul-eq-mul-right}
+use native.Mathlib.Nat.{add-comm, suc-mul, zero-mul, pow-zero, pow-suc, one-le-pow, div-mul-cancel, dvd-of-mod-eq-zero, le-div-iff-mul-le}
+use native.Mathlib.Nat.{eq-of-mul-eq-mul-right}
 use native.Mathlib.Omega.{arith}
 use lib.ListN.{length, length-append, length-reverse}
 use lib.Pow.{pow-add}
@@ -12,7 +13,8 @@ use Rattle.theory_lists.proofs.Below.{below-append, below-reverse}
 use Rattle.theory_lists.specs.Pieces.{first-pieces}
 use Rattle.theory_digits.specs.Digits.{digits, value, valueHigh}
 use Rattle.theory_digits.specs.Bases.{larger, smaller, largerHigh, smallerHigh}
-use Rattle.theory_digits.proofs.Digits.{length-digits, digits-below, value-below, value-of-lowest, value-of-digits, digits-of-value, value-injective, digits-append, value-append}
+use Rattle.theory_digits.proofs.Digits.{length-digits, digits-below, value-below, value-of-lowest, value-of-digits, digits-of-value, value-injective}
+use Rattle.theory_digits.proofs.Digits.{digits-append, value-append}
 
 -- the larger base, to the power m, is the smaller one to the power m * k
 pub power-of-power : (b m k : ℕ) → (b ^ k) ^ m ≡ b ^ (m * k)

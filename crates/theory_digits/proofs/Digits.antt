@@ -2,7 +2,8 @@
 use mathlib.Core.Path.{_≡_, refl, sym, ap, _∙_}
 use mathlib.Core.List.{List, [], _∷_, _++_}
 use Prim.Native.Nat.{ℕ, zero, suc, _+_, _*_, _/_, _%_, _^_, _≤_, _<_}
-use native.Mathlib.Nat.{zero-add, suc-add, mul-comm, mul-assoc, mul-add, mul-suc, one-mul, pow-zero, pow-suc, pow-succ', one-le-pow, mod-one, mod-lt, div-one, div-div-eq-div-mul, div-lt-iff-lt-mul, mod-eq-of-lt, div-eq-of-lt, add-mul-div-left, add-mul-mod-self-left, mul-le-mul-left}
+use native.Mathlib.Nat.{zero-add, suc-add, mul-comm, mul-assoc, mul-add, mul-suc, one-mul, pow-zero, pow-suc, pow-succ', one-le-pow, mod-one, mod-lt, div-one}
+use native.Mathlib.Nat.{div-div-eq-div-mul, div-lt-iff-lt-mul, mod-eq-of-lt, div-eq-of-lt, add-mul-div-left, add-mul-mod-self-left, mul-le-mul-left}
 use native.Mathlib.Omega.{arith}
 use lib.Arith.{mod-mul}
 use lib.ListN.{length, getD}

@@ -5,7 +5,8 @@ use Prim.Native.Nat.{ℕ, zero, suc, _-_, _*_, _/_, _%_, _^_, _≤_, _<_}
 use native.Mathlib.Omega.{arith}
 use lib.Pow.{pow-pos}
 use Rattle.theory_digits.specs.Runs.{trailing, leading}
-use Rattle.theory_digits.proofs.Ends.{trailing-within, trailing-before, trailing-ended, trailing-is, trailing-all, trailing-shifted, trailing-ones, leading-within, leading-before, leading-ended, leading-is, leading-all, leading-shifted, leading-ones}
+use Rattle.theory_digits.proofs.Ends.{trailing-within, trailing-before, trailing-ended, trailing-is, trailing-all, trailing-shifted, trailing-ones}
+use Rattle.theory_digits.proofs.Ends.{leading-within, leading-before, leading-ended, leading-is, leading-all, leading-shifted, leading-ones}
 
 -- the number whose digit is 0 where that of x is d
 abbrev pub apart : ℕ → ℕ → ℕ → ℕ

@@ -8,7 +8,8 @@ use lib.ListN.{length, getD, length-reverse}
 use Rattle.theory_lists.specs.Bounds.{AllBelow}
 use Rattle.theory_lists.proofs.Below.{below-reverse}
 use Rattle.theory_digits.specs.Digits.{digits, value, digitsHigh, valueHigh, placed}
-use Rattle.theory_digits.proofs.Digits.{length-digits, digits-below, value-below, value-of-digits, digits-of-value, value-injective, digits-injective, value-append, digits-append}
+use Rattle.theory_digits.proofs.Digits.{length-digits, digits-below, value-below, value-of-digits, digits-of-value, value-injective, digits-injective}
+use Rattle.theory_digits.proofs.Digits.{value-append, digits-append}
 use Rattle.theory_digits.proofs.Parts.{value-push-highest, digits-push-highest}
 
 -- ---- length and bounds

@@ -2,7 +2,8 @@
 use mathlib.Core.Path.{_≡_, sym, ap, _∙_}
 use mathlib.Core.List.{List, [], _∷_, _++_}
 use Prim.Native.Nat.{ℕ, zero, suc, _+_, _*_, _/_, _%_, _^_, _<_}
-use native.Mathlib.Nat.{zero-add, add-zero, mul-zero, mul-comm, zero-mod, zero-div, mod-one, div-one, pow-zero, pow-suc, one-le-pow, add-mul-div-left, div-eq-of-lt}
+use native.Mathlib.Nat.{zero-add, add-zero, mul-zero, mul-comm, zero-mod, zero-div, mod-one, div-one, pow-zero, pow-suc, one-le-pow, add-mul-div-left}
+use native.Mathlib.Nat.{div-eq-of-lt}
 use native.Mathlib.Numerals.{add-one}
 use native.Mathlib.Omega.{arith}
 use lib.Arith.{mod-mul}

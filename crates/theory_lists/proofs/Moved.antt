@@ -7,7 +7,8 @@ use lib.ListN.{length}
 use Rattle.theory_lists.specs.Part.{part}
 use Rattle.theory_lists.specs.Written.{written}
 use Rattle.theory_lists.proofs.Part.{length-part, part-none, part-append}
-use Rattle.theory_lists.proofs.Written.{length-written, written-none, written-twice-up, written-twice-down, written-over, part-after-written, part-before-written}
+use Rattle.theory_lists.proofs.Written.{length-written, written-none, written-twice-up, written-twice-down, written-over, part-after-written}
+use Rattle.theory_lists.proofs.Written.{part-before-written}
 
 pub copied-none : (d s : List ℕ) (f at : ℕ) → d ≡ written d at (part f f s)
 copied-none d s f at = sym (ap (written d at) (part-none f s) ∙ written-none d at)

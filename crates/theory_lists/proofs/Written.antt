@@ -6,7 +6,8 @@ use Prim.Native.Nat.{ℕ, suc, _+_, _-_, _≤_, _<_}
 use native.Mathlib.Decide.{decLt}
 use native.Mathlib.Omega.{arith}
 use lib.ListN.{length, getD, set, take, drop, length-append, length-take, length-drop, take-append-drop, List·getD-append}
-use lib.Seq.{length-take-le, getD-take, getD-drop, getD-append-add, take-at, drop-at, drop-drop, take-take, take-append-le, drop-append-le, drop-append-add, set-split, ext-getD}
+use lib.Seq.{length-take-le, getD-take, getD-drop, getD-append-add, take-at, drop-at, drop-drop, take-take, take-append-le, drop-append-le, drop-append-add}
+use lib.Seq.{set-split, ext-getD}
 use Rattle.theory_answers.proofs.Says.{pinned-outcome}
 use Rattle.theory_lists.specs.Part.{part, Within}
 use Rattle.theory_lists.specs.Written.{written, Writes}
@@ -105,7 +106,15 @@ module _ (s : List ℕ) (at : ℕ) (x y : List ℕ) (fits : at + length x + leng
   written-twice-down =
       let rest : List ℕ = y ++ drop (length y) (drop (at + length x) s) in
       let l : length (take (at + length x) s) ≡ at + length x = length-take-le (at + length x) s (omega arith) in
-      rw (take-append-le at (take (at + length x) s) rest (omega arith), take-take at (at + length x) s (omega arith), drop-drop (length x) at (take (at + length x) s ++ rest), drop-at (take (at + length x) s) rest (at + length x) l, length-append x y, ← drop-drop (length y) (length x) (drop at s), drop-drop (length x) at s)
+      rw (
+        take-append-le at (take (at + length x) s) rest (omega arith),
+        take-take at (at + length x) s (omega arith),
+        drop-drop (length x) at (take (at + length x) s ++ rest),
+        drop-at (take (at + length x) s) rest (at + length x) l,
+        length-append x y,
+        ← drop-drop (length y) (length x) (drop at s),
+        drop-drop (length x) at s,
+      )
       (ap (λ (r : List ℕ). take at s ++ r) (sym (append-assoc x y (drop (length y) (drop (at + length x) s)))))
 
 -- what is written over, in all of its places, is not seen

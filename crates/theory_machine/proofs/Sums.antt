@@ -47,7 +47,8 @@ module _ (w : Width) where
         read-back w (pos t) u
         ∙ wrap-op (real-signed (bits w)) op keeps r p q (wrap-again (real-signed (bits w)) (real-unsigned (bits w)) refl (op (pos x) (pos y)) s u)
 
-    pub by-bits : {t : ℕ} {r : ℤ} → SFits w a → SFits w b → pos x ≡ wrap U (toZ w (ofZ w a)) → pos y ≡ wrap U (toZ w (ofZ w b)) → pos t ≡ wrap U (op (pos x) (pos y)) → r ≡ wrap S (pos t) → toZ w (ofZ w r) ≡ wrap S (op a b)
+    pub by-bits : {t : ℕ} {r : ℤ} → SFits w a → SFits w b → pos x ≡ wrap U (toZ w (ofZ w a)) → pos y ≡ wrap U (toZ w (ofZ w b))
+        → pos t ≡ wrap U (op (pos x) (pos y)) → r ≡ wrap S (pos t) → toZ w (ofZ w r) ≡ wrap S (op a b)
     by-bits f g p q = through (bits-alike f p) (bits-alike g q)
 
   module _ {a : ℤ} {x : ℕ} (y : ℕ) (op : ℤ → ℤ → ℤ) (keeps : Alike (2 ^ bits w) (pos x) a → Alike (2 ^ bits w) (pos y) (pos y) → Alike (2 ^ bits w) (op (pos x) (pos y)) (op a (pos y))) where
@@ -74,7 +75,8 @@ module _ (w : Width) where
     near-difference = let s = difference a b in record { from-below = omega arith; from-above = omega arith }
 
   -- ---- the test that code makes is that the number does not fit
-  pub mixed-sum-told : {a r : ℕ} {b : ℤ} → a < 2 ^ bits w → SFits w b → pos r ≡ wrap U (pos a +ℤ toZ w (ofZ w b)) → Told U (pos a +ℤ b) (pos r) (not (Bool·beq (ltZ (toZ w (ofZ w b)) (pos 0)) (ltb r a)))
+  pub mixed-sum-told : {a r : ℕ} {b : ℤ} → a < 2 ^ bits w → SFits w b → pos r ≡ wrap U (pos a +ℤ toZ w (ofZ w b))
+      → Told U (pos a +ℤ b) (pos r) (not (Bool·beq (ltZ (toZ w (ofZ w b)) (pos 0)) (ltb r a)))
   mixed-sum-told {a} {r} {b} h g e =
       let m = smaller g in
       rw (toZ-ofZ g)

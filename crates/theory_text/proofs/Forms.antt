@@ -87,13 +87,17 @@ module _ (b0 b1 b2 b3 : ℕ) (bs : List ℕ) where
 read-row : {b : ℕ} {rs : List Range} → Row b (more rs) → (bs : List ℕ) → Matched rs bs → Reads (suc (length rs)) (b ∷ bs)
 read-row {b} (row-00 h) bs m = one-read b 0 0 0 bs h
 read-row {b} (row-c2 l h) bs m = one-matched (λ x. Reads 2 (b ∷ x)) any (λ b1 bs p. two-read b b1 0 0 bs l h p) bs m
-read-row {b} (row-e0 e) bs m = two-matched (λ x. Reads 3 (b ∷ x)) (0xa0 to 0xbf) any (λ b1 b2 bs p q. three-read b b1 b2 0 bs (omega arith) (omega arith) (omega arith) q (omega arith) (λ u v. omega arith)) bs m
+read-row {b} (row-e0 e) bs m = two-matched (λ x. Reads 3 (b ∷ x)) (0xa0 to 0xbf) any
+    (λ b1 b2 bs p q. three-read b b1 b2 0 bs (omega arith) (omega arith) (omega arith) q (omega arith) (λ u v. omega arith)) bs m
 read-row {b} (row-e1 l h) bs m = two-matched (λ x. Reads 3 (b ∷ x)) any any (λ b1 b2 bs p q. three-read b b1 b2 0 bs (omega arith) (omega arith) p q (omega arith) (λ u v. omega arith)) bs m
-read-row {b} (row-ed e) bs m = two-matched (λ x. Reads 3 (b ∷ x)) (0x80 to 0x9f) any (λ b1 b2 bs p q. three-read b b1 b2 0 bs (omega arith) (omega arith) (omega arith) q (omega arith) (λ u v. omega arith)) bs m
+read-row {b} (row-ed e) bs m = two-matched (λ x. Reads 3 (b ∷ x)) (0x80 to 0x9f) any
+    (λ b1 b2 bs p q. three-read b b1 b2 0 bs (omega arith) (omega arith) (omega arith) q (omega arith) (λ u v. omega arith)) bs m
 read-row {b} (row-ee l h) bs m = two-matched (λ x. Reads 3 (b ∷ x)) any any (λ b1 b2 bs p q. three-read b b1 b2 0 bs (omega arith) (omega arith) p q (omega arith) (λ u v. omega arith)) bs m
-read-row {b} (row-f0 e) bs m = three-matched (λ x. Reads 4 (b ∷ x)) (0x90 to 0xbf) any any (λ b1 b2 b3 bs p q r. four-read b b1 b2 b3 bs (omega arith) (omega arith) (omega arith) q r (omega arith) (omega arith)) bs m
+read-row {b} (row-f0 e) bs m = three-matched (λ x. Reads 4 (b ∷ x)) (0x90 to 0xbf) any any
+    (λ b1 b2 b3 bs p q r. four-read b b1 b2 b3 bs (omega arith) (omega arith) (omega arith) q r (omega arith) (omega arith)) bs m
 read-row {b} (row-f1 l h) bs m = three-matched (λ x. Reads 4 (b ∷ x)) any any any (λ b1 b2 b3 bs p q r. four-read b b1 b2 b3 bs (omega arith) (omega arith) p q r (omega arith) (omega arith)) bs m
-read-row {b} (row-f4 e) bs m = three-matched (λ x. Reads 4 (b ∷ x)) (0x80 to 0x8f) any any (λ b1 b2 b3 bs p q r. four-read b b1 b2 b3 bs (omega arith) (omega arith) (omega arith) q r (omega arith) (omega arith)) bs m
+read-row {b} (row-f4 e) bs m = three-matched (λ x. Reads 4 (b ∷ x)) (0x80 to 0x8f) any any
+    (λ b1 b2 b3 bs p q r. four-read b b1 b2 b3 bs (omega arith) (omega arith) (omega arith) q r (omega arith) (omega arith)) bs m
 
 read-after : {b : ℕ} (a : After) → Row b a → (bs : List ℕ) → 0 < followed a bs → Reads (followed a bs) (b ∷ bs)
 read-after wrong r bs p = absurd (omega arith)

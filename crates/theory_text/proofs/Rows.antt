@@ -77,10 +77,60 @@ module _ {b : ℕ} where
   row-is (row-c2 l h) = simp (not-above 0x00 0x7f b (omega arith), is-between 0xc2 0xdf b (omega arith) (omega arith))
   row-is (row-e0 e) = simp (not-above 0x00 0x7f b (omega arith), not-above 0xc2 0xdf b (omega arith), is-between 0xe0 0xe0 b (omega arith) (omega arith))
   row-is (row-e1 l h) = simp (not-above 0x00 0x7f b (omega arith), not-above 0xc2 0xdf b (omega arith), not-above 0xe0 0xe0 b (omega arith), is-between 0xe1 0xec b (omega arith) (omega arith))
-  row-is (row-ed e) = simp (not-above 0x00 0x7f b (omega arith), not-above 0xc2 0xdf b (omega arith), not-above 0xe0 0xe0 b (omega arith), not-above 0xe1 0xec b (omega arith), is-between 0xed 0xed b (omega arith) (omega arith))
-  row-is (row-ee l h) = simp (not-above 0x00 0x7f b (omega arith), not-above 0xc2 0xdf b (omega arith), not-above 0xe0 0xe0 b (omega arith), not-above 0xe1 0xec b (omega arith), not-above 0xed 0xed b (omega arith), is-between 0xee 0xef b (omega arith) (omega arith))
-  row-is (row-f0 e) = simp (not-above 0x00 0x7f b (omega arith), not-above 0xc2 0xdf b (omega arith), not-above 0xe0 0xe0 b (omega arith), not-above 0xe1 0xec b (omega arith), not-above 0xed 0xed b (omega arith), not-above 0xee 0xef b (omega arith), is-between 0xf0 0xf0 b (omega arith) (omega arith))
-  row-is (row-f1 l h) = simp (not-above 0x00 0x7f b (omega arith), not-above 0xc2 0xdf b (omega arith), not-above 0xe0 0xe0 b (omega arith), not-above 0xe1 0xec b (omega arith), not-above 0xed 0xed b (omega arith), not-above 0xee 0xef b (omega arith), not-above 0xf0 0xf0 b (omega arith), is-between 0xf1 0xf3 b (omega arith) (omega arith))
-  row-is (row-f4 e) = simp (not-above 0x00 0x7f b (omega arith), not-above 0xc2 0xdf b (omega arith), not-above 0xe0 0xe0 b (omega arith), not-above 0xe1 0xec b (omega arith), not-above 0xed 0xed b (omega arith), not-above 0xee 0xef b (omega arith), not-above 0xf0 0xf0 b (omega arith), not-above 0xf1 0xf3 b (omega arith), is-between 0xf4 0xf4 b (omega arith) (omega arith))
+  row-is (row-ed e) = simp (
+    not-above 0x00 0x7f b (omega arith),
+    not-above 0xc2 0xdf b (omega arith),
+    not-above 0xe0 0xe0 b (omega arith),
+    not-above 0xe1 0xec b (omega arith),
+    is-between 0xed 0xed b (omega arith) (omega arith),
+  )
+  row-is (row-ee l h) = simp (
+    not-above 0x00 0x7f b (omega arith),
+    not-above 0xc2 0xdf b (omega arith),
+    not-above 0xe0 0xe0 b (omega arith),
+    not-above 0xe1 0xec b (omega arith),
+    not-above 0xed 0xed b (omega arith),
+    is-between 0xee 0xef b (omega arith) (omega arith),
+  )
+  row-is (row-f0 e) = simp (
+    not-above 0x00 0x7f b (omega arith),
+    not-above 0xc2 0xdf b (omega arith),
+    not-above 0xe0 0xe0 b (omega arith),
+    not-above 0xe1 0xec b (omega arith),
+    not-above 0xed 0xed b (omega arith),
+    not-above 0xee 0xef b (omega arith),
+    is-between 0xf0 0xf0 b (omega arith) (omega arith),
+  )
+  row-is (row-f1 l h) = simp (
+    not-above 0x00 0x7f b (omega arith),
+    not-above 0xc2 0xdf b (omega arith),
+    not-above 0xe0 0xe0 b (omega arith),
+    not-above 0xe1 0xec b (omega arith),
+    not-above 0xed 0xed b (omega arith),
+    not-above 0xee 0xef b (omega arith),
+    not-above 0xf0 0xf0 b (omega arith),
+    is-between 0xf1 0xf3 b (omega arith) (omega arith),
+  )
+  row-is (row-f4 e) = simp (
+    not-above 0x00 0x7f b (omega arith),
+    not-above 0xc2 0xdf b (omega arith),
+    not-above 0xe0 0xe0 b (omega arith),
+    not-above 0xe1 0xec b (omega arith),
+    not-above 0xed 0xed b (omega arith),
+    not-above 0xee 0xef b (omega arith),
+    not-above 0xf0 0xf0 b (omega arith),
+    not-above 0xf1 0xf3 b (omega arith),
+    is-between 0xf4 0xf4 b (omega arith) (omega arith),
+  )
   row-is (gap l h) = low-wrong b l h
-  row-is (beyond l) = simp (not-above 0x00 0x7f b (omega arith), not-above 0xc2 0xdf b (omega arith), not-above 0xe0 0xe0 b (omega arith), not-above 0xe1 0xec b (omega arith), not-above 0xed 0xed b (omega arith), not-above 0xee 0xef b (omega arith), not-above 0xf0 0xf0 b (omega arith), not-above 0xf1 0xf3 b (omega arith), not-above 0xf4 0xf4 b (omega arith))
+  row-is (beyond l) = simp (
+    not-above 0x00 0x7f b (omega arith),
+    not-above 0xc2 0xdf b (omega arith),
+    not-above 0xe0 0xe0 b (omega arith),
+    not-above 0xe1 0xec b (omega arith),
+    not-above 0xed 0xed b (omega arith),
+    not-above 0xee 0xef b (omega arith),
+    not-above 0xf0 0xf0 b (omega arith),
+    not-above 0xf1 0xf3 b (omega arith),
+    not-above 0xf4 0xf4 b (omega arith),
+  )

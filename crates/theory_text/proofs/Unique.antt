@@ -10,7 +10,8 @@ use Rattle.theory_text.specs.Text.{Scalars, encode, Valid}
 use Rattle.theory_text.specs.Table.{first}
 use Rattle.theory_text.specs.Reading.{scalars, rest, validTo}
 use Rattle.theory_text.proofs.Sizes.{len-some}
-use Rattle.theory_text.proofs.Steps.{first-scalar, first-form, form-first, form-value, drop-form, rest-stop, rest-step, scalars-stop, scalars-step, along}
+use Rattle.theory_text.proofs.Steps.{first-scalar, first-form, form-first, form-value, drop-form, rest-stop, rest-step, scalars-stop, scalars-step}
+use Rattle.theory_text.proofs.Steps.{along}
 
 pub record Parts (bs cs r : List ℕ) : Type 0 where
   pub whole : encode cs ++ r ≡ bs

@@ -1,7 +1,8 @@
 -- Natural numbers that differ by a multiple of m. A record, so that the two numbers can be inferred.
 use mathlib.Core.Path.{_≡_, refl, sym, ap, _∙_}
 use Prim.Native.Nat.{ℕ, _+_, _-_, _*_, _/_, _%_, _<_}
-use native.Mathlib.Nat.{add-mod, add-mod-right, add-mul-mod-self-right, mod-lt, mod-mod, mod-eq-of-lt, div-add-mod', mul-comm, mul-assoc, add-mul, mul-add-mod-self-right}
+use native.Mathlib.Nat.{add-mod, add-mod-right, add-mul-mod-self-right, mod-lt, mod-mod, mod-eq-of-lt, div-add-mod', mul-comm, mul-assoc, add-mul}
+use native.Mathlib.Nat.{mul-add-mod-self-right}
 use native.Mathlib.Omega.{arith}
 
 pub record Cong (m x y : ℕ) : Type 0 where

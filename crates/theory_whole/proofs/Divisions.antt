@@ -119,7 +119,8 @@ module _ (a b : ℤ) (n : 0 < natAbs b) where
     unfolding ediv _modulo_
     one-more s = to a b n (lt-yes (remZ a b) (pos 0) t) (lt-yes b (pos 0) s)
       where
-        by : (a b : ℕ) → up (negℤ (pos (suc a % suc b))) + 0 < 0 + down (negℤ (pos (suc a % suc b))) → Step a (suc b) → (pos (suc a / suc b + 1) ≡ pos (suc (a / suc b))) × (negℤ (pos (suc a % suc b)) -ℤ negsuc b ≡ pos (suc b - suc (a % suc b)))
+        by : (a b : ℕ) → up (negℤ (pos (suc a % suc b))) + 0 < 0 + down (negℤ (pos (suc a % suc b))) → Step a (suc b)
+            → (pos (suc a / suc b + 1) ≡ pos (suc (a / suc b))) × (negℤ (pos (suc a % suc b)) -ℤ negsuc b ≡ pos (suc b - suc (a % suc b)))
         by a b t (up-one r q m) =
             let u = up-neg (pos (suc a % suc b)) in
             let d = down-neg (pos (suc a % suc b)) in
@@ -137,7 +138,8 @@ module _ (a b : ℤ) (n : 0 < natAbs b) where
     unfolding ediv _modulo_
     one-less s = to a b n (lt-yes (remZ a b) (pos 0) t) (lt-no b (pos 0) s)
       where
-        by : (a b : ℕ) → up (negℤ (pos (suc a % b))) + 0 < 0 + down (negℤ (pos (suc a % b))) → Step a b → (negℤ (pos (suc a / b)) -ℤ pos 1 ≡ negsuc (a / b)) × (negℤ (pos (suc a % b)) +ℤ pos b ≡ pos (b - suc (a % b)))
+        by : (a b : ℕ) → up (negℤ (pos (suc a % b))) + 0 < 0 + down (negℤ (pos (suc a % b))) → Step a b
+            → (negℤ (pos (suc a / b)) -ℤ pos 1 ≡ negsuc (a / b)) × (negℤ (pos (suc a % b)) +ℤ pos b ≡ pos (b - suc (a % b)))
         by a b t (up-one r q m) =
             let u = up-neg (pos (suc a % b)) in
             let d = down-neg (pos (suc a % b)) in

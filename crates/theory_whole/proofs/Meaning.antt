@@ -70,10 +70,13 @@ clamp-only {k} real z c n = ⊎-elim inside outside (in-or-out k z)
         (λ e. ⊎-elim (λ f. by-halves c z (omega arith)) (λ f. by-halves c z (omega arith)) (distance z c))
         (distance z z))
 
-    near : (b : ℤ) → natAbs (z -ℤ c) ≤ natAbs (z -ℤ b) → (up z + down b < up b + down z → up b + down c ≤ up c + down b → c ≡ b) × (up b + down z < up z + down b → up c + down b ≤ up b + down c → c ≡ b)
+    near : (b : ℤ) → natAbs (z -ℤ c) ≤ natAbs (z -ℤ b)
+        → (up z + down b < up b + down z → up b + down c ≤ up c + down b → c ≡ b) × (up b + down z < up z + down b → up c + down b ≤ up b + down c → c ≡ b)
     near b l = (
-      λ h g. ⊎-elim (λ e. ⊎-elim (λ f. by-halves c b (omega arith)) (λ f. by-halves c b (omega arith)) (distance z c)) (λ e. ⊎-elim (λ f. by-halves c b (omega arith)) (λ f. by-halves c b (omega arith)) (distance z c)) (distance z b),
-      λ h g. ⊎-elim (λ e. ⊎-elim (λ f. by-halves c b (omega arith)) (λ f. by-halves c b (omega arith)) (distance z c)) (λ e. ⊎-elim (λ f. by-halves c b (omega arith)) (λ f. by-halves c b (omega arith)) (distance z c)) (distance z b),
+      λ h g. ⊎-elim (λ e. ⊎-elim (λ f. by-halves c b (omega arith)) (λ f. by-halves c b (omega arith)) (distance z c))
+          (λ e. ⊎-elim (λ f. by-halves c b (omega arith)) (λ f. by-halves c b (omega arith)) (distance z c)) (distance z b),
+      λ h g. ⊎-elim (λ e. ⊎-elim (λ f. by-halves c b (omega arith)) (λ f. by-halves c b (omega arith)) (distance z c))
+          (λ e. ⊎-elim (λ f. by-halves c b (omega arith)) (λ f. by-halves c b (omega arith)) (distance z c)) (distance z b),
     )
 
     outside : Out k z → c ≡ clamp k z

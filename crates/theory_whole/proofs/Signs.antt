@@ -85,12 +85,20 @@ module _ {k : Kind} (real : Real k) (even : k .size ≡ k .low + k .low) (a b r 
       by-test (negative a)
       (λ x. let p = lt-yes a (pos 0) x in
       by-test (negative b)
-      (λ y. let q = lt-yes b (pos 0) y in by-its-sign real (a +ℤ b) r e (omega (arith, i .above, j .above, j .below)) (omega (arith, i .below, j .above, j .below)) (rw (x, y, is-negative (a +ℤ b) (omega arith)) (sum-of-same true (negative r))))
-      (λ y. let q = lt-no b (pos 0) y in known-to-fit real (a +ℤ b) r e (record { above = omega (arith, i .above, j .above, j .below); below = omega (arith, i .below, j .above, j .below) }) (rw (x, y) (sum-of-other true (negative r)))))
+      (λ y. let q = lt-yes b (pos 0) y in
+      by-its-sign real (a +ℤ b) r e (omega (arith, i .above, j .above, j .below)) (omega (arith, i .below, j .above, j .below))
+      (rw (x, y, is-negative (a +ℤ b) (omega arith)) (sum-of-same true (negative r))))
+      (λ y. let q = lt-no b (pos 0) y in
+      known-to-fit real (a +ℤ b) r e (record { above = omega (arith, i .above, j .above, j .below); below = omega (arith, i .below, j .above, j .below) })
+      (rw (x, y) (sum-of-other true (negative r)))))
       (λ x. let p = lt-no a (pos 0) x in
       by-test (negative b)
-      (λ y. let q = lt-yes b (pos 0) y in known-to-fit real (a +ℤ b) r e (record { above = omega (arith, i .above, j .above, j .below); below = omega (arith, i .below, j .above, j .below) }) (rw (x, y) (sum-of-other false (negative r))))
-      (λ y. let q = lt-no b (pos 0) y in by-its-sign real (a +ℤ b) r e (omega (arith, i .above, j .above, j .below)) (omega (arith, i .below, j .above, j .below)) (rw (x, y, not-negative (a +ℤ b) (omega arith)) (sum-of-same false (negative r)))))
+      (λ y. let q = lt-yes b (pos 0) y in
+      known-to-fit real (a +ℤ b) r e (record { above = omega (arith, i .above, j .above, j .below); below = omega (arith, i .below, j .above, j .below) })
+      (rw (x, y) (sum-of-other false (negative r))))
+      (λ y. let q = lt-no b (pos 0) y in
+      by-its-sign real (a +ℤ b) r e (omega (arith, i .above, j .above, j .below)) (omega (arith, i .below, j .above, j .below))
+      (rw (x, y, not-negative (a +ℤ b) (omega arith)) (sum-of-same false (negative r)))))
 
   pub difference-told-by-signs : r ≡ wrap k (a -ℤ b) → Told k (a -ℤ b) r (both-other (negative a) (negative b) (negative r))
   difference-told-by-signs e =
@@ -98,9 +106,17 @@ module _ {k : Kind} (real : Real k) (even : k .size ≡ k .low + k .low) (a b r 
       by-test (negative a)
       (λ x. let p = lt-yes a (pos 0) x in
       by-test (negative b)
-      (λ y. let q = lt-yes b (pos 0) y in known-to-fit real (a -ℤ b) r e (record { above = omega (arith, i .above, j .above, j .below); below = omega (arith, i .below, j .above, j .below) }) (rw (x, y) (difference-of-same true (negative r))))
-      (λ y. let q = lt-no b (pos 0) y in by-its-sign real (a -ℤ b) r e (omega (arith, i .above, j .above, j .below)) (omega (arith, i .below, j .above, j .below)) (rw (x, y, is-negative (a -ℤ b) (omega arith)) (difference-of-other true (negative r)))))
+      (λ y. let q = lt-yes b (pos 0) y in
+      known-to-fit real (a -ℤ b) r e (record { above = omega (arith, i .above, j .above, j .below); below = omega (arith, i .below, j .above, j .below) })
+      (rw (x, y) (difference-of-same true (negative r))))
+      (λ y. let q = lt-no b (pos 0) y in
+      by-its-sign real (a -ℤ b) r e (omega (arith, i .above, j .above, j .below)) (omega (arith, i .below, j .above, j .below))
+      (rw (x, y, is-negative (a -ℤ b) (omega arith)) (difference-of-other true (negative r)))))
       (λ x. let p = lt-no a (pos 0) x in
       by-test (negative b)
-      (λ y. let q = lt-yes b (pos 0) y in by-its-sign real (a -ℤ b) r e (omega (arith, i .above, j .above, j .below)) (omega (arith, i .below, j .above, j .below)) (rw (x, y, not-negative (a -ℤ b) (omega arith)) (difference-of-other false (negative r))))
-      (λ y. let q = lt-no b (pos 0) y in known-to-fit real (a -ℤ b) r e (record { above = omega (arith, i .above, j .above, j .below); below = omega (arith, i .below, j .above, j .below) }) (rw (x, y) (difference-of-same false (negative r)))))
+      (λ y. let q = lt-yes b (pos 0) y in
+      by-its-sign real (a -ℤ b) r e (omega (arith, i .above, j .above, j .below)) (omega (arith, i .below, j .above, j .below))
+      (rw (x, y, not-negative (a -ℤ b) (omega arith)) (difference-of-other false (negative r))))
+      (λ y. let q = lt-no b (pos 0) y in
+      known-to-fit real (a -ℤ b) r e (record { above = omega (arith, i .above, j .above, j .below); below = omega (arith, i .below, j .above, j .below) })
+      (rw (x, y) (difference-of-same false (negative r)))))

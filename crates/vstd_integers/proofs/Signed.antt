@@ -20,7 +20,9 @@ use Rattle.theory_whole.proofs.Fits.{In, real-signed, in-fits, out-not-fits}
 use Rattle.theory_whole.proofs.Wrap.{wrap-is, wrap-same}
 use Rattle.theory_whole.proofs.Orders.{equal-yes, is-equal}
 use Rattle.theory_whole.proofs.Quotients.{two-halves, quotients-in, quotients-alike, minus-one-in, least-by-minus-one}
-use Rattle.vstd_integers.specs.Signed.{wrapping-add, wrapping-add-unsigned, wrapping-sub, signed-crop, wrapping-mul, wrapping-shl, wrapping-shr, checked-add, checked-add-unsigned, checked-sub, checked-sub-unsigned, checked-mul, divided-unless, checked-div, checked-div-euclid, checked-rem, checked-rem-euclid}
+use Rattle.vstd_integers.specs.Signed.{wrapping-add, wrapping-add-unsigned, wrapping-sub, signed-crop, wrapping-mul, wrapping-shl, wrapping-shr}
+use Rattle.vstd_integers.specs.Signed.{checked-add, checked-add-unsigned, checked-sub, checked-sub-unsigned, checked-mul, divided-unless, checked-div}
+use Rattle.vstd_integers.specs.Signed.{checked-div-euclid, checked-rem, checked-rem-euclid}
 use Rattle.vstd_integers.proofs.Bounds.{above-max, at-most-max, refuse-by-bounds, refuse-by-max, refuse-by-min, wrap-by-bounds, wrap-by-max}
 
 module _ (w : ℕ) (some : 0 < w) where

@@ -20,8 +20,11 @@ use Rattle.theory_whole.proofs.Halves.{sum, difference}
 use Rattle.theory_whole.proofs.Fits.{In, real-unsigned, in-fits}
 use Rattle.theory_whole.proofs.Refuse.{divided-by-zero, divided-so}
 use Rattle.theory_whole.proofs.Unsigned.{in-unsigned, wraps-modulo, wraps-quotient, difference-is}
-use Rattle.vstd_integers.specs.Unsigned.{wrapping-add, wrapping-add-signed, wrapping-sub, wrapping-mul, wrapping-shl, wrapping-shr, next-multiple-of, checked-add, checked-add-signed, checked-sub, checked-mul, checked-next-multiple-of, checked-div, checked-rem, saturating-add, saturating-sub, saturating-mul, is-multiple-of}
-use Rattle.vstd_integers.proofs.Bounds.{refuse-by-bounds, refuse-by-max, refuse-by-min, clamp-by-max, clamp-by-min, wrap-by-bounds, wrap-by-max, wrap-by-min}
+use Rattle.vstd_integers.specs.Unsigned.{wrapping-add, wrapping-add-signed, wrapping-sub, wrapping-mul, wrapping-shl, wrapping-shr, next-multiple-of}
+use Rattle.vstd_integers.specs.Unsigned.{checked-add, checked-add-signed, checked-sub, checked-mul, checked-next-multiple-of, checked-div, checked-rem}
+use Rattle.vstd_integers.specs.Unsigned.{saturating-add, saturating-sub, saturating-mul, is-multiple-of}
+use Rattle.vstd_integers.proofs.Bounds.{refuse-by-bounds, refuse-by-max, refuse-by-min, clamp-by-max, clamp-by-min, wrap-by-bounds, wrap-by-max}
+use Rattle.vstd_integers.proofs.Bounds.{wrap-by-min}
 
 module _ (w : ℕ) {a b : ℕ} (i : a < 2 ^ w) (j : b < 2 ^ w) where
   pub wrapping-add-kept : wrap (unsigned w) (pos a +ℤ pos b) ≡ wrapping-add w (pos a) (pos b)
@@ -119,7 +122,8 @@ module _ (a b : ℕ) where
       (λ e. rw e)
       (λ e. let d : pos (b - a % b) ≡ pos b -ℤ pos (a % b) = difference-is (omega arith) in rw (e, ← d))
 
-pub checked-next-multiple-of-kept : (w : ℕ) {a b : ℕ} → a < 2 ^ w → b < 2 ^ w → only-if (not (eqZ (pos b) (pos 0))) (refuse (unsigned w) (pos (nextMultiple a b))) ≡ checked-next-multiple-of w (pos a) (pos b)
+pub checked-next-multiple-of-kept : (w : ℕ) {a b : ℕ} → a < 2 ^ w → b < 2 ^ w
+    → only-if (not (eqZ (pos b) (pos 0))) (refuse (unsigned w) (pos (nextMultiple a b))) ≡ checked-next-multiple-of w (pos a) (pos b)
 unfolding checked-next-multiple-of only-if
 checked-next-multiple-of-kept w {a} {b} i j =
     by-test (eqb b 0)

@@ -11,7 +11,8 @@ use Rattle.theory_lists.specs.Written.{written}
 use Rattle.theory_answers.proofs.Says.{outcome-alike}
 use Rattle.theory_lists.proofs.Part.{length-part}
 use Rattle.vstd_slices.specs.Slices as vstd
-use Rattle.vstd_slices.specs.Promises.{Get, First, Last, Places, SubRange, SplitAt, SplitFirst, NextPiece, StartsWith, EndsWith, Equal, Set, Reverse, CopyFrom, CopyWithin}
+use Rattle.vstd_slices.specs.Promises.{Get, First, Last, Places, SubRange, SplitAt, SplitFirst, NextPiece, StartsWith, EndsWith, Equal, Set, Reverse}
+use Rattle.vstd_slices.specs.Promises.{CopyFrom, CopyWithin}
 use Rattle.vstd_slices.proofs.Sequences.{part-of-part, part-subrange, subrange-pinned, written-updated, reverse-reversed}
 use Rattle.vstd_slices.proofs.Tests.{starts-with-says, ends-with-says, equal-says}
 use Rattle.vstd_slices.proofs.Written.{written-replaces, copied-within}
@@ -63,7 +64,8 @@ module _ {ok : Bool} {s : List ℕ} {f t : ℕ} where
       ))
       (λ z. z)
 
-  pub split-first-promised : {first x y : ℕ} → Outcome ok (Within f t s × (f < t)) ((first ≡ getD (part f t s) 0 0) × (x ≡ f + 1) × (y ≡ t)) ((first ≡ 0) × (x ≡ 0) × (y ≡ 0)) → SplitFirst ok first x y s f t
+  pub split-first-promised : {first x y : ℕ} → Outcome ok (Within f t s × (f < t)) ((first ≡ getD (part f t s) 0 0) × (x ≡ f + 1) × (y ≡ t))
+      ((first ≡ 0) × (x ≡ 0) × (y ≡ 0)) → SplitFirst ok first x y s f t
   split-first-promised =
       outcome-alike (some-element .0) (some-element .1)
       (λ p g.

@@ -14,7 +14,9 @@ use Rattle.theory_text.specs.Scalar.{follows}
 use Rattle.theory_text.proofs.Pieces.{scalars-cut, form-valid}
 use Rattle.theory_text.proofs.Ends.{last-ascii}
 use Rattle.theory_text.proofs.Boundaries.{boundary-start, boundary-end, boundary-splits, boundary-starts, starts-boundary}
-use Rattle.vstd_text.specs.Decoding.{at, Leads, Continues, is-leading-byte-width-1, is-leading-byte-width-2, is-leading-byte-width-3, is-leading-byte-width-4, Valid-leading-and-continuation-bytes-first-codepoint, length-of-first-scalar, take-first-scalar, Valid-utf8, decode-utf8}
+use Rattle.vstd_text.specs.Decoding.{at, Leads, Continues, is-leading-byte-width-1, is-leading-byte-width-2, is-leading-byte-width-3}
+use Rattle.vstd_text.specs.Decoding.{is-leading-byte-width-4, Valid-leading-and-continuation-bytes-first-codepoint, length-of-first-scalar}
+use Rattle.vstd_text.specs.Decoding.{take-first-scalar, Valid-utf8, decode-utf8}
 use Rattle.vstd_text.specs.Encoding.{encode-scalar}
 use Rattle.vstd_text.specs.Places.{Is-char-boundary}
 use Rattle.vstd_text.proofs.Ranges.{lead-one, one-lead, lead-two, lead-three, lead-four, continues, a-continuation}

@@ -12,9 +12,11 @@ use Rattle.theory_text.specs.Reading.{decoded}
 use Rattle.theory_text.proofs.Sizes.{len-some, Sized, in-one, in-two, in-three, in-four}
 use Rattle.theory_text.proofs.Forms.{Reads, read, one-read, two-read, three-read, four-read, written-first, written-value}
 use Rattle.theory_text.proofs.Ends.{first-begins, begins-first, begins-value}
-use Rattle.vstd_text.specs.Decoding.{Continues, Valid-leading-and-continuation-bytes-first-codepoint, decode-first-codepoint, length-of-first-codepoint, Not-surrogate, Valid-first-scalar, decode-first-scalar, length-of-first-scalar}
+use Rattle.vstd_text.specs.Decoding.{Continues, Valid-leading-and-continuation-bytes-first-codepoint, decode-first-codepoint, length-of-first-codepoint}
+use Rattle.vstd_text.specs.Decoding.{Not-surrogate, Valid-first-scalar, decode-first-scalar, length-of-first-scalar}
 use Rattle.vstd_text.proofs.Operators.{codepoint-width-1-is, codepoint-width-2-is, codepoint-width-3-is, codepoint-width-4-is}
-use Rattle.vstd_text.proofs.Ranges.{lead-one, one-lead, past-one, lead-two, two-lead, past-two, lead-three, three-lead, past-three, lead-four, four-lead, continues, a-continuation}
+use Rattle.vstd_text.proofs.Ranges.{lead-one, one-lead, past-one, lead-two, two-lead, past-two, lead-three, three-lead, past-three, lead-four, four-lead}
+use Rattle.vstd_text.proofs.Ranges.{continues, a-continuation}
 
 -- how long the first codepoint is and what it is, by the first byte
 module _ (b0 b1 b2 b3 : ℕ) (r : List ℕ) where

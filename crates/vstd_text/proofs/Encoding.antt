@@ -9,8 +9,10 @@ use Rattle.theory_whole.proofs.Cases.{by-test}
 use Rattle.theory_text.specs.Scalar.{Scalar, len, formed, form}
 use Rattle.theory_text.specs.Text.{Scalars, encode}
 use Rattle.theory_text.proofs.Sizes.{length-form, Sized, in-one, in-two, in-three, in-four, sized}
-use Rattle.vstd_text.specs.Encoding.{has-width-1-encoding, has-width-2-encoding, has-width-3-encoding, has-width-4-encoding, is-scalar, encode-scalar, Chars, encode-utf8}
-use Rattle.vstd_text.proofs.Operators.{leading-byte-width-1-is, leading-byte-width-2-is, leading-byte-width-3-is, leading-byte-width-4-is, last-continuation-byte-is, second-last-continuation-byte-is, third-last-continuation-byte-is}
+use Rattle.vstd_text.specs.Encoding.{has-width-1-encoding, has-width-2-encoding, has-width-3-encoding, has-width-4-encoding, is-scalar, encode-scalar}
+use Rattle.vstd_text.specs.Encoding.{Chars, encode-utf8}
+use Rattle.vstd_text.proofs.Operators.{leading-byte-width-1-is, leading-byte-width-2-is, leading-byte-width-3-is, leading-byte-width-4-is}
+use Rattle.vstd_text.proofs.Operators.{last-continuation-byte-is, second-last-continuation-byte-is, third-last-continuation-byte-is}
 use Rattle.vstd_text.proofs.Ranges.{width-one, not-one, width-two, not-two, width-three, three-width, not-three, width-four, four-width, not-four}
 
 pub or-false : (t : Bool) → t || false ≡ t

@@ -11,7 +11,8 @@ use Rattle.theory_answers.specs.Says.{Says}
 use Rattle.theory_lists.specs.Part.{part, Within}
 use Rattle.theory_lists.specs.Written.{written}
 use Rattle.theory_answers.proofs.Says.{says-true, true-where, ok-where}
-use Rattle.vstd_text.specs.Decoding.{Valid-first-scalar, decode-first-scalar, length-of-first-scalar, Valid-utf8, decode-utf8, length-of-last-scalar, decode-last-scalar}
+use Rattle.vstd_text.specs.Decoding.{Valid-first-scalar, decode-first-scalar, length-of-first-scalar, Valid-utf8, decode-utf8, length-of-last-scalar}
+use Rattle.vstd_text.specs.Decoding.{decode-last-scalar}
 use Rattle.vstd_text.specs.Encoding.{is-scalar, encode-scalar}
 use Rattle.vstd_text.specs.Places.{Is-char-boundary}
 use Rattle.vstd_text.specs.Characters.{Is-ascii-chars, is-white-space}

@@ -5,8 +5,10 @@ use native.Mathlib.Nat.{mod-lt, mod-eq-of-lt}
 use native.Mathlib.Omega.{arith}
 use lib.Bits.{bitAnd, bitOr, and-mask, or-shifted}
 use lib.Pow.{pow-pos, pow-mono, shl-exact, shr-shr}
-use Rattle.vstd_text.specs.Decoding.{continuation-bits, leading-bits-width-1, leading-bits-width-2, leading-bits-width-3, leading-bits-width-4, codepoint-width-1, codepoint-width-2, codepoint-width-3, codepoint-width-4}
-use Rattle.vstd_text.specs.Encoding.{as-u8, leading-byte-width-1, leading-byte-width-2, leading-byte-width-3, leading-byte-width-4, last-continuation-byte, second-last-continuation-byte, third-last-continuation-byte}
+use Rattle.vstd_text.specs.Decoding.{continuation-bits, leading-bits-width-1, leading-bits-width-2, leading-bits-width-3, leading-bits-width-4}
+use Rattle.vstd_text.specs.Decoding.{codepoint-width-1, codepoint-width-2, codepoint-width-3, codepoint-width-4}
+use Rattle.vstd_text.specs.Encoding.{as-u8, leading-byte-width-1, leading-byte-width-2, leading-byte-width-3, leading-byte-width-4}
+use Rattle.vstd_text.specs.Encoding.{last-continuation-byte, second-last-continuation-byte, third-last-continuation-byte}
 
 -- ---- the bits of a byte
 

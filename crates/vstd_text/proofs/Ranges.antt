@@ -8,7 +8,8 @@ use Rattle.theory_whole.proofs.Cases.{by-test, never, both, both-are, first-not
 use Rattle.theory_lists.specs.Bounds.{between}
 use Rattle.theory_lists.proofs.Between.{bounds-of, is-between, not-below, not-above}
 use Rattle.theory_text.specs.Scalar.{Surrogate}
-use Rattle.vstd_text.specs.Decoding.{is-leading-byte-width-1, is-leading-byte-width-2, is-leading-byte-width-3, is-leading-byte-width-4, is-continuation-byte}
+use Rattle.vstd_text.specs.Decoding.{is-leading-byte-width-1, is-leading-byte-width-2, is-leading-byte-width-3, is-leading-byte-width-4}
+use Rattle.vstd_text.specs.Decoding.{is-continuation-byte}
 use Rattle.vstd_text.specs.Encoding.{has-width-1-encoding, has-width-2-encoding, has-width-3-encoding, has-width-4-encoding}
 
 pub range-out : (l h b : ℕ) → ((l ≤ b) × (b ≤ h) → ⊥) → not (between l h b) ≡ true

@@ -4,10 +4,16 @@ use mathlib.Core.Path.{_≡_, refl}
 use mathlib.Core.Bool.{true}
 use Prim.Native.Nat.{ℕ, _+_, _*_, _/_, _%_}
 use native.Mathlib.Omega.{arith}
-use Rattle.vstd_text.specs.Decoding.{Leads, Continues, is-leading-byte-width-1, is-leading-byte-width-2, is-leading-byte-width-3, is-leading-byte-width-4, codepoint-width-1, codepoint-width-2, codepoint-width-3, codepoint-width-4, Not-overlong-encoding, Not-surrogate}
-use Rattle.vstd_text.specs.Encoding.{has-width-1-encoding, has-width-2-encoding, has-width-3-encoding, has-width-4-encoding, leading-byte-width-1, leading-byte-width-2, leading-byte-width-3, leading-byte-width-4, last-continuation-byte, second-last-continuation-byte, third-last-continuation-byte}
-use Rattle.vstd_text.proofs.Operators.{codepoint-width-1-is, codepoint-width-2-is, codepoint-width-3-is, codepoint-width-4-is, leading-byte-width-1-is, leading-byte-width-2-is, leading-byte-width-3-is, leading-byte-width-4-is, last-continuation-byte-is, second-last-continuation-byte-is, third-last-continuation-byte-is}
-use Rattle.vstd_text.proofs.Ranges.{lead-one, one-lead, lead-two, two-lead, lead-three, three-lead, lead-four, four-lead, continues, a-continuation, width-one, one-width, width-two, two-width, width-three, three-bounds, width-four, four-width}
+use Rattle.vstd_text.specs.Decoding.{Leads, Continues, is-leading-byte-width-1, is-leading-byte-width-2, is-leading-byte-width-3, is-leading-byte-width-4}
+use Rattle.vstd_text.specs.Decoding.{codepoint-width-1, codepoint-width-2, codepoint-width-3, codepoint-width-4, Not-overlong-encoding, Not-surrogate}
+use Rattle.vstd_text.specs.Encoding.{has-width-1-encoding, has-width-2-encoding, has-width-3-encoding, has-width-4-encoding, leading-byte-width-1}
+use Rattle.vstd_text.specs.Encoding.{leading-byte-width-2, leading-byte-width-3, leading-byte-width-4, last-continuation-byte}
+use Rattle.vstd_text.specs.Encoding.{second-last-continuation-byte, third-last-continuation-byte}
+use Rattle.vstd_text.proofs.Operators.{codepoint-width-1-is, codepoint-width-2-is, codepoint-width-3-is, codepoint-width-4-is, leading-byte-width-1-is}
+use Rattle.vstd_text.proofs.Operators.{leading-byte-width-2-is, leading-byte-width-3-is, leading-byte-width-4-is, last-continuation-byte-is}
+use Rattle.vstd_text.proofs.Operators.{second-last-continuation-byte-is, third-last-continuation-byte-is}
+use Rattle.vstd_text.proofs.Ranges.{lead-one, one-lead, lead-two, two-lead, lead-three, three-lead, lead-four, four-lead, continues, a-continuation}
+use Rattle.vstd_text.proofs.Ranges.{width-one, one-width, width-two, two-width, width-three, three-bounds, width-four, four-width}
 
 -- ---- a continuation byte holds the last digit in base 64
 

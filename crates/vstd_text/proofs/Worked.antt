@@ -5,7 +5,8 @@ use mathlib.Core.List.{[], _∷_}
 use Rattle.theory_lists.specs.Bounds.{between}
 use Rattle.vstd_text.specs.Decoding.{is-leading-byte-width-1, is-leading-byte-width-2, is-leading-byte-width-3, is-continuation-byte}
 use Rattle.vstd_text.specs.Decoding.{continuation-bits, leading-bits-width-1, leading-bits-width-2, leading-bits-width-3, leading-bits-width-4}
-use Rattle.vstd_text.specs.Decoding.{codepoint-width-1, codepoint-width-2, codepoint-width-3, codepoint-width-4, decode-first-codepoint, length-of-first-codepoint}
+use Rattle.vstd_text.specs.Decoding.{codepoint-width-1, codepoint-width-2, codepoint-width-3, codepoint-width-4, decode-first-codepoint}
+use Rattle.vstd_text.specs.Decoding.{length-of-first-codepoint}
 use Rattle.vstd_text.specs.Decoding.{length-of-last-scalar, decode-last-scalar}
 use Rattle.vstd_text.specs.Encoding.{has-width-1-encoding, has-width-2-encoding, has-width-3-encoding, has-width-4-encoding, is-scalar, encode-scalar}
 use Rattle.vstd_text.specs.Encoding.{leading-byte-width-1, leading-byte-width-2, leading-byte-width-3, leading-byte-width-4}

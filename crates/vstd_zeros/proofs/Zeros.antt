@@ -12,9 +12,11 @@ use lib.Pow.{pow-pos}
 use Rattle.theory_whole.proofs.Cases.{by-test}
 use Rattle.theory_digits.specs.Runs.{trailing, leading}
 use Rattle.theory_digits.proofs.Digits.{divided-twice}
-use Rattle.theory_digits.proofs.Ends.{trailing-within, trailing-before, trailing-ended, trailing-is, trailing-all, trailing-ones, leading-within, leading-before, leading-ended, leading-is, leading-all, leading-ones}
+use Rattle.theory_digits.proofs.Ends.{trailing-within, trailing-before, trailing-ended, trailing-is, trailing-all, trailing-ones, leading-within}
+use Rattle.theory_digits.proofs.Ends.{leading-before, leading-ended, leading-is, leading-all, leading-ones}
 use Rattle.theory_digits.proofs.Facts.{AtLow, AtHigh, low-facts, high-facts, low-pinned, high-pinned}
-use Rattle.vstd_zeros.specs.Zeros.{trailing-halving, leading-halving, vstd-trailing-zeros, vstd-leading-zeros, vstd-trailing-ones, vstd-leading-ones, TrailingZerosFacts, TrailingOnesFacts, LeadingZerosFacts, LeadingOnesFacts}
+use Rattle.vstd_zeros.specs.Zeros.{trailing-halving, leading-halving, vstd-trailing-zeros, vstd-leading-zeros, vstd-trailing-ones, vstd-leading-ones}
+use Rattle.vstd_zeros.specs.Zeros.{TrailingZerosFacts, TrailingOnesFacts, LeadingZerosFacts, LeadingOnesFacts}
 
 -- the language's `n & 1`
 lowest : (n : ℕ) → bitAnd n 1 ≡ n % 2

@@ -24,11 +24,15 @@ loop-holds c = (nothing-yet 64 _ _, omega arith)
 
 returns-3 : tie.Need-returns-3 Inv-loop μ-loop
 returns-3 c =
-    so-far-stuck 64 _ _ _ _ (c .before .before .before .before .before .loop .inv .0) (omega arith) _ _ (c .before .before .pushed .ensures) (not-true (c .before .before .pushed .result .ok) (c .if3 .taken)) _ (omega arith) (omega arith)
+    so-far-stuck 64 _ _ _ _ (c .before .before .before .before .before .loop .inv .0) (omega arith) _ _ (c .before .before .pushed .ensures)
+    (not-true (c .before .before .pushed .result .ok) (c .if3 .taken)) _ (omega arith) (omega arith)
 
 loop-again : tie.Need-loop-again Inv-loop μ-loop
-loop-again c =
-    (so-far-next 64 _ _ _ _ (c .before .before .before .before .before .loop .inv .0) (omega arith) _ _ (c .before .before .pushed .ensures) (not-false (c .before .before .pushed .result .ok) (c .if3 .left)), omega arith)
+loop-again c = (
+  so-far-next 64 _ _ _ _ (c .before .before .before .before .before .loop .inv .0) (omega arith) _ _ (c .before .before .pushed .ensures)
+      (not-false (c .before .before .pushed .result .ok) (c .if3 .left)),
+  omega arith,
+)
 
 returns-4 : tie.Need-returns-4 Inv-loop μ-loop
 returns-4 c = so-far-all 64 _ _ _ _ _ (c .before .loop .inv .0) (omega arith) (omega arith) (omega arith)
@@ -36,4 +40,5 @@ returns-4 c = so-far-all 64 _ _ _ _ _ (c .before .loop .inv .0) (omega arith) (o
 pub read-u64-spec : {M : Type 1} → statement M
 read-u64-spec =
     tie.close
-    (tie.spec Inv-loop μ-loop returns returns-2 loop-holds (λ c. search needs) (λ c κs. search needs) returns-3 (λ c. search needs) (λ c. omega arith) loop-again returns-4)
+    (tie.spec Inv-loop μ-loop returns returns-2 loop-holds (λ c. search needs) (λ c κs. search needs) returns-3 (λ c. search needs)
+    (λ c. omega arith) loop-again returns-4)

@@ -28,14 +28,17 @@ put-requires c κs = (simp length-set (omega arith), figures-hold _ _ (c .before
 same-length-2 : tie.Need-same-length-2
 same-length-2 c =
     let start = c .before .before .before .before .before .before .before .before .before .args in
-    with-sign-length (start .out .now) (start .at) _ _ (c .before .before .before .before .before .before .places .ensures .0) (omega arith) _ (c .before .before .put .ensures)
+    with-sign-length (start .out .now) (start .at) _ _ (c .before .before .before .before .before .before .places .ensures .0) (omega arith) _
+    (c .before .before .put .ensures)
 
 returns-4 : tie.Need-returns-4
 returns-4 c =
-    let y = not-false (c .before .before .before .before .before .before .before .before .before .args .negative) (c .before .before .before .before .before .before .before .if1 .left) in
+    let y = not-false (c .before .before .before .before .before .before .before .before .before .args .negative)
+    (c .before .before .before .before .before .before .before .if1 .left) in
     rw y (with-sign-shown _ _ _ _ (c .before .before .before .before .before .before .places .ensures .0) (omega arith) _ (c .before .before .put .ensures))
 
 pub write-with-sign-spec : {M : Type 1} → statement M
 write-with-sign-spec =
     tie.close
-    (tie.spec (λ c κs. search needs) (λ c. search needs) returns (λ c κs. search needs) returns-2 (λ c. search needs) returns-3 (λ c. search needs) (λ c. search needs) put-requires (λ c. search needs) same-length-2 returns-4)
+    (tie.spec (λ c κs. search needs) (λ c. search needs) returns (λ c κs. search needs) returns-2 (λ c. search needs) returns-3 (λ c. search needs)
+    (λ c. search needs) put-requires (λ c. search needs) same-length-2 returns-4)

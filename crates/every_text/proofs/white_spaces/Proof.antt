@@ -10,4 +10,5 @@ abbrev μ-loop : tie.MeasureT-loop
 μ-loop count₀ c₀ count c = 0x111000 - c
 
 pub white-spaces-spec : {M : Type 1} → statement M
-white-spaces-spec = tie.close (tie.spec Inv-loop μ-loop (λ c. search needs) (λ c κs. search needs) (λ c κs. search needs) (λ c. search needs) (λ c. search needs) (λ c. search needs) (λ c. search needs) (λ c. search needs))
+white-spaces-spec = tie.close (tie.spec Inv-loop μ-loop (λ c. search needs) (λ c κs. search needs) (λ c κs. search needs) (λ c. search needs)
+    (λ c. search needs) (λ c. search needs) (λ c. search needs) (λ c. search needs))

@@ -25,8 +25,14 @@ loop-holds c =
 loop-again : tie.Need-loop-again Inv-loop μ-loop
 loop-again c =
     let a = c .before .before .before .before .before .before .before .before .before .args in
-    let l = c .before .before .before .before .before .before .loop in
-    (omega arith, search needs, c .before .before .copy-block .ensures ∙ ap (λ (r : List ℕ). written r (a .at + l .i) (part (l .i) (l .i + a .size) (a .s .now))) (l .inv .2) ∙ copied-up (a .d .now) (a .s .now) 0 (l .i) (l .i) (l .i + a .size) (a .at) (omega arith) (omega arith) (omega arith) (omega arith) (omega arith) (a .at + l .i) (omega arith))
+    let l = c .before .before .before .before .before .before .loop in (
+      omega arith,
+      search needs,
+      c .before .before .copy-block .ensures
+          ∙ ap (λ (r : List ℕ). written r (a .at + l .i) (part (l .i) (l .i + a .size) (a .s .now))) (l .inv .2)
+          ∙ copied-up (a .d .now) (a .s .now) 0 (l .i) (l .i) (l .i + a .size) (a .at) (omega arith) (omega arith) (omega arith) (omega arith) (omega arith)
+          (a .at + l .i) (omega arith),
+    )
 
 returns : tie.Need-returns Inv-loop μ-loop
 returns c =

@@ -27,8 +27,15 @@ loop-holds c =
 loop-again : tie.Need-loop-again Inv-loop μ-loop
 loop-again c =
     let a = c .before .before .before .before .before .before .before .before .before .before .args in
-    let l = c .before .before .before .before .before .loop in
-    (omega arith, omega arith, omega arith, search needs, c .before .before .move-block .ensures ∙ moved-down (a .d .now) (l .i - a .size) (l .i) (a .to) (l .k - a .size) (omega arith) (omega arith) (omega arith) (omega arith) (omega arith) (l .d) (l .k) (omega arith) (l .inv .4))
+    let l = c .before .before .before .before .before .loop in (
+      omega arith,
+      omega arith,
+      omega arith,
+      search needs,
+      c .before .before .move-block .ensures
+          ∙ moved-down (a .d .now) (l .i - a .size) (l .i) (a .to) (l .k - a .size) (omega arith) (omega arith) (omega arith) (omega arith) (omega arith)
+          (l .d) (l .k) (omega arith) (l .inv .4),
+    )
 
 slice-aggregate-put : tie.Need-slice-aggregate-put Inv-loop μ-loop
 slice-aggregate-put c =

@@ -27,8 +27,15 @@ loop-holds c =
 loop-again : tie.Need-loop-again Inv-loop μ-loop
 loop-again c =
     let a = c .before .before .before .before .before .before .before .before .before .before .args in
-    let l = c .before .before .before .before .before .loop in
-    (omega arith, omega arith, omega arith, search needs, c .before .before .move-block .ensures ∙ moved-up (a .d .now) (a .from) (l .i) (l .i + a .size) (a .at) (omega arith) (omega arith) (omega arith) (omega arith) (omega arith) (l .d) (l .k) (l .inv .2) (l .inv .4))
+    let l = c .before .before .before .before .before .loop in (
+      omega arith,
+      omega arith,
+      omega arith,
+      search needs,
+      c .before .before .move-block .ensures
+          ∙ moved-up (a .d .now) (a .from) (l .i) (l .i + a .size) (a .at) (omega arith) (omega arith) (omega arith) (omega arith) (omega arith) (l .d)
+          (l .k) (l .inv .2) (l .inv .4),
+    )
 
 slice-aggregate-put : tie.Need-slice-aggregate-put Inv-loop μ-loop
 slice-aggregate-put c =

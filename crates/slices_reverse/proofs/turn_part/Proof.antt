@@ -25,8 +25,13 @@ loop-holds c = (omega arith, omega arith, refl, refl)
 loop-again : tie.Need-loop-again Inv-loop μ-loop Inv-loop2 μ-loop2
 unfolding exchanged
 loop-again c =
-    let l = c .before .before .before .before .before .loop in
-    (omega arith, omega arith, search needs, ap (reversed (l .i + 8) (l .j - 8)) (c .before .before .exchange .ensures) ∙ reversed-inside (l .i) (l .j) 8 (l .d) (omega arith) (omega arith) ∙ l .inv .3)
+    let l = c .before .before .before .before .before .loop in (
+      omega arith,
+      omega arith,
+      search needs,
+      ap (reversed (l .i + 8) (l .j - 8)) (c .before .before .exchange .ensures)
+          ∙ reversed-inside (l .i) (l .j) 8 (l .d) (omega arith) (omega arith) ∙ l .inv .3,
+    )
 
 loop2-holds : tie.Need-loop2-holds Inv-loop μ-loop Inv-loop2 μ-loop2
 loop2-holds c = (omega arith, omega arith, refl, refl)
@@ -34,8 +39,13 @@ loop2-holds c = (omega arith, omega arith, refl, refl)
 loop2-again : tie.Need-loop2-again Inv-loop μ-loop Inv-loop2 μ-loop2
 unfolding exchanged
 loop2-again c =
-    let l = c .before .before .before .before .before .loop2 in
-    (omega arith, omega arith, search needs, ap (reversed (l .i + 1) (l .j - 1)) (c .before .before .exchange2 .ensures) ∙ reversed-inside (l .i) (l .j) 1 (l .d) (omega arith) (omega arith) ∙ l .inv .3)
+    let l = c .before .before .before .before .before .loop2 in (
+      omega arith,
+      omega arith,
+      search needs,
+      ap (reversed (l .i + 1) (l .j - 1)) (c .before .before .exchange2 .ensures)
+          ∙ reversed-inside (l .i) (l .j) 1 (l .d) (omega arith) (omega arith) ∙ l .inv .3,
+    )
 
 returns : tie.Need-returns Inv-loop μ-loop Inv-loop2 μ-loop2
 unfolding reversed

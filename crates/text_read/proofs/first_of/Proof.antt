@@ -52,14 +52,16 @@ returns-7 c =
     let a = c .before .before .before .before .before .before .before .before .before .before .args in
     let r = c .before .before .before .before .before .before .before .before .before .row-of in
     let l = r .result in
-    tested _ _ _ (r .ensures) (fourth-out (l .low) (l .high) (a .b1) (a .b2) (a .b3) (is-between (l .low) (l .high) (a .b1) (omega arith) (omega arith)) (omega arith) (l .bytes) (omega (arith, r .ensures .most)) (c .if7 .taken))
+    tested _ _ _ (r .ensures) (fourth-out (l .low) (l .high) (a .b1) (a .b2) (a .b3) (is-between (l .low) (l .high) (a .b1) (omega arith) (omega arith))
+    (omega arith) (l .bytes) (omega (arith, r .ensures .most)) (c .if7 .taken))
 
 returns-8 : tie.Need-returns-8
 returns-8 c =
     let a = c .before .before .before .before .before .before .before .before .before .before .args in
     let r = c .before .before .before .before .before .before .before .before .before .row-of in
     let l = r .result in
-    tested _ _ _ (r .ensures) (all-four (l .low) (l .high) (a .b1) (a .b2) (a .b3) (is-between (l .low) (l .high) (a .b1) (omega arith) (omega arith)) (omega arith) (l .bytes) (omega (arith, r .ensures .most)) (omega arith))
+    tested _ _ _ (r .ensures) (all-four (l .low) (l .high) (a .b1) (a .b2) (a .b3) (is-between (l .low) (l .high) (a .b1) (omega arith) (omega arith))
+    (omega arith) (l .bytes) (omega (arith, r .ensures .most)) (omega arith))
 
 pub first-of-spec : {M : Type 1} → statement M
 first-of-spec = tie.close (tie.spec (λ c κs. search needs) returns returns-2 returns-3 returns-4 returns-5 returns-6 returns-7 returns-8)

@@ -27,7 +27,8 @@ returns-7 : tie.Need-returns-7
 returns-7 c = not-one whiteSpace (c .before .before .before .before .before .before .before .args .c) (omega arith)
 
 returns-8 : tie.Need-returns-8
-returns-8 c = one-from whiteSpace 0x2000 11 ((refl, (refl, (refl, (refl, (refl, (refl, (refl, (refl, (refl, (refl, (refl, tt)))))))))))) (c .before .before .before .before .before .before .before .before .args .c) (omega arith) (omega arith)
+returns-8 c = one-from whiteSpace 0x2000 11 ((refl, (refl, (refl, (refl, (refl, (refl, (refl, (refl, (refl, (refl, (refl, tt))))))))))))
+    (c .before .before .before .before .before .before .before .before .args .c) (omega arith) (omega arith)
 
 returns-9 : tie.Need-returns-9
 returns-9 c = is-one whiteSpace _ 0x2028 refl (c .if9 .taken)
