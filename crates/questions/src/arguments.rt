@@ -5,9 +5,10 @@ use spelled::Number;
 use spelled::hex::Length;
 use words::line::Words;
 
-// How many a question has.
-pub fn count(kind: u8, operation: u8) -> usize {
-    has(kind, operation, 0)
+// How many words a question has, its NAME among them.
+pub fn words_of(kind: u8, operation: u8) -> usize {
+    1
+        + has(kind, operation, 0)
         + has(kind, operation, 1)
         + has(kind, operation, 2)
         + has(kind, operation, 3)

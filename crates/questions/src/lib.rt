@@ -33,7 +33,7 @@ fn said_of(line: &[u8], bytes: &mut [u8]) -> Said {
     }
     let kind = name.kind;
     let operation = name.operation;
-    if words.count != arguments::count(kind, operation) + 1 {
+    if words.count != arguments::words_of(kind, operation) {
         return Said::Malformed;
     }
     asked(kind, operation, line, words, bytes)

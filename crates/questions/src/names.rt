@@ -35,7 +35,7 @@ fn meant(name: &[u8]) -> Name {
     }
     let next = dot + 1;
     let kind = list::number_in(&numbered::GROUPS, &name[0..dot], 0);
-    let operation = operation_of(kind, &name[next..]);
+    let operation = operation_of(&numbered::NAMES, kind, &name[next..]);
     Name {
         ok: operation != list::NONE,
         kind,
@@ -43,11 +43,11 @@ fn meant(name: &[u8]) -> Name {
     }
 }
 
-// The operation of that name which the kind has; several may share a name.
-fn operation_of(kind: u8, name: &[u8]) -> u8 {
+// The operation of that name in the list which the kind has; several may share a name.
+fn operation_of(names: &[u8], kind: u8, name: &[u8]) -> u8 {
     let mut start = 0;
     while start < list::NONE {
-        let number = list::number_in(&numbered::NAMES, name, start);
+        let number = list::number_in(names, name, start);
         if number < start {
             return list::NONE;
         }
