@@ -34,7 +34,8 @@ fn thirds(kind: u8, operation: u8, a: u64, b: u64) -> u64
     ensures { λ r. ⌜ r ≤ 256 ⌝ }
 {
     let mut count = 0;
-    for c in 0..values(operation, 2) {
+    let end = values(operation, 2);
+    for c in 0..end {
         count += agree(kind, operation, a, b, c);
     }
     count
@@ -44,7 +45,8 @@ fn row(kind: u8, operation: u8, a: u64) -> u64
     ensures { λ r. ⌜ r ≤ 65536 ⌝ }
 {
     let mut count = 0;
-    for b in 0..values(operation, 1) {
+    let end = values(operation, 1);
+    for b in 0..end {
         count += thirds(kind, operation, a, b);
     }
     count

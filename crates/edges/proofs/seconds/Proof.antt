@@ -4,10 +4,10 @@ use Rattle.edges.proofs.seconds.Statement.{statement}
 use Rattle.edges.proofs.seconds.Tie as tie
 
 abbrev Inv-loop : tie.InvT-loop
-Inv-loop kind operation a count thirds₀ number₀ thirds number = number ≤ count
+Inv-loop kind operation a count thirds number₀ number = number ≤ count
 
 abbrev μ-loop : tie.MeasureT-loop
-μ-loop kind operation a count thirds₀ number₀ thirds number = count - number
+μ-loop kind operation a count thirds number₀ number = count - number
 
 pub seconds-spec : {M : Type 1} → statement M
 seconds-spec =
@@ -15,6 +15,7 @@ seconds-spec =
     (tie.spec
     Inv-loop
     μ-loop
+    (λ c κs. search needs)
     (λ c. search needs)
     (λ c κs. search needs)
     (λ c κs. search needs)

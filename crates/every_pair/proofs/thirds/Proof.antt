@@ -4,10 +4,10 @@ use Rattle.every_pair.proofs.thirds.Statement.{statement}
 use Rattle.every_pair.proofs.thirds.Tie as tie
 
 abbrev Inv-loop : tie.InvT-loop
-Inv-loop kind operation a b count₀ c₀ end₀ count c end = (count ≤ c) × (c ≤ 256)
+Inv-loop kind operation a b count₀ end c₀ count c = (count ≤ c) × (c ≤ end) × (end ≤ 256)
 
 abbrev μ-loop : tie.MeasureT-loop
-μ-loop kind operation a b count₀ c₀ end₀ count c end = 256 - c
+μ-loop kind operation a b count₀ end c₀ count c = end - c
 
 pub thirds-spec : {M : Type 1} → statement M
 thirds-spec =
@@ -15,6 +15,7 @@ thirds-spec =
     (tie.spec
     Inv-loop
     μ-loop
+    (λ c κs. search needs)
     (λ c. search needs)
     (λ c κs. search needs)
     (λ c. search needs)
