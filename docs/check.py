@@ -24,7 +24,8 @@ VSTD = os.environ.get("VSTD", os.path.join(os.path.dirname(statements.ROOT), "sh
 TAKEN_UP = [
     "arithmetic--power2", "bits", "bytes", "endian", "math", "slice", "std_specs--bits", "std_specs--char", "std_specs--num", "std_specs--slice", "utf8", "wrapping",
 ]
-PROGRAMS = ["numbered", "questions", "ask", "show", "tables", "every_pair", "edges", "every_bit", "every_slice", "every_text", "bench_loops"]
+# The crates that crates.txt lists under the headings of programs and of what is measured: their functions have no rows.
+PROGRAMS = re.findall(r"^(\w+):", contracts.read(os.path.join(statements.ROOT, "crates.txt")).partition("\n# programs: ")[2], re.M)
 VERDICTS = ["same", "stronger", "refused instead of required", "different", "left out"]
 BEYOND = "beyond vstd"
 LONGEST = 110  # characters of a cell, but for the wrong answers, which are a list

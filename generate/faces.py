@@ -1,80 +1,133 @@
-"""The faces that are written once per width: promisebook_u8 .. promisebook_isize, and promisebook_zeros, promisebook_number_bytes and promisebook_decimal, which
-hold every width in one file. The faces of slices and of text are written by hand."""
+"""The faces: every exported function with its contract, from the table (operations/*.txt), and its proof, from the template of its shape where one is named.
+
+A face holds the functions of one type, or all of a family, by width where the family has a title for each."""
+import functools
 import os
+import re
 
-from digits import byte_words
-from templates import CRATES, SIGNS, TEMPLATES, WIDTHS, filled, read, templates, type_name, words
+from declared import exports
+from table import Fault
+from templates import CRATES, TEMPLATES, WIDTHS, filled, read, templates
 
-# The promises of the integers, by the shape of their proof (templates/promisebook_integers/proofs).
-COMPARISONS = {"copy": ["clone"], "test": ["eq", "ne", "lt", "le", "gt", "ge"], "cmp": ["cmp"], "partial_cmp": ["partial_cmp"]}
-PROMISES = {
-    "unsigned": {
-        "number": ["wrapping_add", "wrapping_sub", "wrapping_mul", "saturating_add", "saturating_sub", "saturating_mul"],
-        "number_with_signed": ["wrapping_add_signed"],
-        "number_by_distance": ["wrapping_shl", "wrapping_shr"],
-        "checked": [
-            "checked_add", "checked_sub", "checked_mul", "checked_next_multiple_of",
-            "checked_div", "checked_div_euclid", "checked_rem", "checked_rem_euclid",
-        ],
-        "checked_with_signed": ["checked_add_signed"],
-        "multiple": ["is_multiple_of"],
-        **COMPARISONS,
-    },
-    "signed": {
-        "number": ["wrapping_add", "wrapping_sub", "wrapping_mul"],
-        "number_with_unsigned": ["wrapping_add_unsigned"],
-        "number_by_distance": ["wrapping_shl", "wrapping_shr"],
-        "checked": [
-            "checked_add", "checked_sub", "checked_mul",
-            "checked_div", "checked_div_euclid", "checked_rem", "checked_rem_euclid",
-        ],
-        "checked_with_unsigned": ["checked_add_unsigned", "checked_sub_unsigned"],
-        **COMPARISONS,
-    },
-}
+LONGEST = 100  # columns of a signature, as the formatter lays it out
+DECLARED = re.compile(r"^(?:(?:abbrev|unfoldable) )?pub (?:record |data )?(\S+) [:(]", re.M)
+CONSTRUCTOR = re.compile(r"^  (?:pub )?(\S+) :", re.M)
+BY_HAND, NOT_NEEDED = "by hand", "none needed"
 
 
-def integers():
-    """A face for each integer type."""
-    folder = os.path.join(TEMPLATES, "promisebook_integers")
-    for width in WIDTHS:
-        for sign in SIGNS:
-            table, own = words(width), type_name(sign, width)
-            crate = os.path.join(CRATES, "promisebook_" + own)
-            yield os.path.join(crate, "src", "lib.rt"), filled(read(os.path.join(folder, sign + ".rt.in")), table)
-            for shape, operations in PROMISES[sign].items():
-                proof = read(os.path.join(folder, "proofs", sign, shape + ".antt.in"))
-                for operation in operations:
-                    named = {**table, "OPERATION": operation, "DASHED": operation.replace("_", "-")}
-                    yield os.path.join(crate, "proofs", "pb_%s_%s" % (own, operation), "Proof.antt"), filled(proof, named)
+# ---- what a contract cites
+
+@functools.lru_cache(None)
+def names_of(module):
+    """The names that CRATE/FILE defines: those that it declares in their order, then those within them."""
+    crate, _, file = module.partition("/")
+    path = os.path.join(CRATES, crate, "specs", file + ".antt")
+    if not os.path.exists(path):
+        raise Fault("generate/operations: `uses` names %s, and there is no crates/%s/specs/%s.antt" % (module, crate, file))
+    text = read(path)
+    return DECLARED.findall(text) + CONSTRUCTOR.findall(text)
 
 
-# The faces of one file: which widths they hold, and what width.rt.in and the proofs exist for at each width, where that is not the width alone.
-COUNTS = [{"END": end, "KIND": kind} for end in ("leading", "trailing") for kind in ("zeros", "ones")]
-WHOLE = [
-    ("promisebook_zeros", [width for width in WIDTHS if width.has_zeros], COUNTS),
-    ("promisebook_number_bytes", [width for width in WIDTHS if width.has_bytes], [{}]),
-    ("promisebook_decimal", WIDTHS, [{}]),
-]
+def cited(export):
+    """The words of a contract that are neither its own nor numbers."""
+    own = {"r", "now"} | {name for name, _ in export.parameters}
+    words = re.findall(r"(?<![\w.-])[A-Za-z][\w.-]*", re.sub(r" \.\w+", "", export.contract))
+    return [word for word in words if word not in own]
 
 
-def whole():
-    for name, widths, each in WHOLE:
-        folder, crate = os.path.join(TEMPLATES, name), os.path.join(CRATES, name)
-        lib = read(os.path.join(folder, "lib.rt.in"))
-        for width in widths:
-            title = {"TITLE": "the size type" if width.is_size else "%d bits" % width.bits}
-            table = {**words(width), **byte_words(width, {}), **title}
-            code = templates(folder, width)
-            lib += filled(code["width"], table)
-            for further in each:
-                named = {**table, **further}
-                lib += filled(code.get("count", ""), named)
-                for function, proof in templates(os.path.join(folder, "proofs"), width).items():
-                    yield os.path.join(crate, "proofs", filled(function, named), "Proof.antt"), filled(proof, named)
-        yield os.path.join(crate, "src", "lib.rt"), lib
+def cites(export, name):
+    """Whether a contract has a name of the kit's, or an operator, as _+ℤ_."""
+    return " %s " % name.strip("_") in export.contract if name.startswith("_") else name in cited(export)
+
+
+def uses(found):
+    """The lines that import what the contracts cite, in the order of the family's record."""
+    lines, left = [], {word: export for export in reversed(found) for word in cited(export)}
+    for written in found[0].operation.family.record.get("uses"):
+        module, _, rest = found[0].filled(written).partition(" ")
+        if rest.startswith("{"):
+            names = [name for name in re.findall(r"[^{}, ]+", rest) if any(cites(export, name) for export in found)]
+            if names:
+                lines.append("%s.{%s}" % (module, ", ".join(names)))
+        elif rest.startswith("as "):
+            crate, file = module.split("/")
+            names = [word for word in left if word.startswith(rest[3:] + ".") and word.split(".")[1] in names_of(module)]
+            lines.append("Rattle.%s.specs.%s %s" % (crate, file, rest))
+        else:
+            crate, file = module.split("/")
+            names = [name for name in names_of(module) if name in left]
+            if names:
+                lines.append("Rattle.%s.specs.%s.{%s}" % (crate, file, ", ".join(names)))
+        for name in names:
+            left.pop(name, None)
+    for word, export in left.items():
+        raise export.operation.fault("its contract cites %s, which no module under `uses` defines" % word)
+    return "".join("ghost use %s;\n" % line for line in lines)
+
+
+# ---- the functions
+
+def signature(export):
+    parameters = ["%s: %s" % pair for pair in export.parameters]
+    head, end = 'pub extern "C" fn %s(' % export.symbol, ") -> %s" % export.gives
+    line = head + ", ".join(parameters) + end
+    return line if len(line) <= LONGEST else head + "".join("\n    %s," % parameter for parameter in parameters) + "\n" + end
+
+
+def function(export):
+    heading, note = export.operation.record.get("heading"), export.operation.record.get("note")
+    body = "".join("    %s\n" % line for line in export.body.split("\n"))
+    return "%s\n%s#[no_mangle]\n%s\n    ensures { λ r. ⌜ %s ⌝ }\n{\n%s}\n" % (
+        "\n// ---- %s\n" % export.filled(heading) if heading else "", "// %s\n" % note if note else "", signature(export), export.contract, body,
+    )
+
+
+def proof(export):
+    """The path of its proof, and the text where a template makes it."""
+    path = os.path.join(CRATES, export.face, "proofs", export.symbol, "Proof.antt")
+    shape = export.operation.get("proof")
+    if shape == BY_HAND:
+        if not os.path.exists(path):
+            raise export.operation.fault("its proof is by hand, and there is no crates/%s/proofs/%s/Proof.antt" % (export.face, export.symbol))
+        return []
+    if shape == NOT_NEEDED:
+        return []
+    folder = os.path.join(TEMPLATES, "promisebook_" + export.operation.family.name, "proofs")
+    if export.kind and os.path.isdir(os.path.join(folder, export.kind.sign)):
+        folder = os.path.join(folder, export.kind.sign)
+    shapes = templates(folder, export.kind.width)
+    if shape not in shapes:
+        raise export.operation.fault("there is no proof of the shape %s (%s.antt.in in generate/%s)" % (shape, shape, os.path.relpath(folder, os.path.dirname(TEMPLATES))))
+    named = {**export.kind.code_words(), "OPERATION": export.name, "DASHED": export.name.replace("_", "-")}
+    return [(path, filled(shapes[shape], named))]
+
+
+# ---- the faces
+
+def faces():
+    """The exports of each face, those of one width together where the family has a title for each."""
+    made = {}
+    for export in exports():
+        made.setdefault(export.face, []).append(export)
+    for face, found in made.items():
+        if found[0].operation.family.record.get("title"):
+            found.sort(key=lambda export: WIDTHS.index(export.kind.width))
+        yield face, found
+
+
+def source(found):
+    record, width = found[0].operation.family.record, None
+    text = "".join("// %s\n" % line for line in found[0].filled(record.get("opening")).split("\n")) + uses(found)
+    for export in found:
+        if record.get("title") and export.kind.width != width:
+            width = export.kind.width
+            text += "\n// ---- %s\n" % export.filled(record.get("title"))
+        text += function(export)
+    return text
 
 
 def files():
-    yield from integers()
-    yield from whole()
+    for face, found in faces():
+        yield os.path.join(CRATES, face, "src", "lib.rt"), source(found)
+        for export in found:
+            yield from proof(export)

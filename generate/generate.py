@@ -4,6 +4,7 @@ decimal_read .. decimal_write, the faces, what the programs have of each kind, t
 
     python3 generate/generate.py           write
     python3 generate/generate.py --check   only compare; exit status 1 where a file differs, is missing, or is one too many
+    python3 generate/generate.py --list    print the paths that it writes
 
 A template is the code itself with some words in capitals (the table `words` in templates.py). NAME.VARIANT.rt.in stands in for NAME.rt.in at the widths of
 that variant."""
@@ -11,16 +12,30 @@ import glob
 import os
 import sys
 
+import ask_lines
+import ask_page
 import bench
 import bindings
+import complete
+import counts
+import crates_txt
 import decimals
+import declared
 import digits
+import edges
 import faces
+import help_text
 import integers
-import programs
+import numbered
+import numbered_bytes
+import numbered_integers
+import rust_integers
+import selftest
+import spelled
 from templates import CRATES, read
 
-FAMILIES = [integers, digits, decimals, faces, programs, bench]
+CODE = [integers, digits, decimals, bench]
+FROM_THE_TABLE = [faces, numbered, numbered_integers, numbered_bytes, spelled, help_text, edges, rust_integers, ask_lines, ask_page, counts, bindings]
 
 
 def stored(made):
@@ -34,23 +49,35 @@ def stored(made):
 
 def main():
     check = sys.argv[1:] == ["--check"]
-    if sys.argv[1:] and not check:
+    if sys.argv[1:] not in ([], ["--check"], ["--list"]):
         sys.exit(__doc__)
-    made = {path: text for family in FAMILIES for path, text in family.files()}
-    made.update(bindings.files(made))
+    made = {path: text for writer in CODE for path, text in writer.files()}
+    declared.SOURCES.update(made)
+    declared_here = {path: text for writer in FROM_THE_TABLE for path, text in writer.files()}
+    made.update(declared_here)
+    made.update(crates_txt.files(declared_here))
+    if sys.argv[1:] == ["--list"]:
+        print("\n".join(sorted(os.path.relpath(path, os.path.dirname(CRATES)) for path in made)))
+        return
     strays = sorted(set(stored(made)) - set(made))
     changed = [path for path, text in made.items() if not os.path.exists(path) or read(path) != text]
     for path in changed + strays:
         print("%s: %s" % (os.path.relpath(path, os.path.dirname(CRATES)), "is not generated" if path in strays else "differs from its template"))
+    missing = list(complete.faults())
     if check:
-        print("generated files: %d, %d wrong" % (len(made), len(changed) + len(strays)))
-        sys.exit(1 if changed or strays else 0)
+        missing += [] if missing else list(selftest.faults())
+        print("".join(line + "\n" for line in missing) + "generated files: %d, %d wrong; operations: %d faults, %d damages tried" % (
+            len(made), len(changed) + len(strays), len(missing), len(selftest.DAMAGES) + 1,
+        ))
+        sys.exit(1 if changed or strays or missing else 0)
     for path in changed:
         os.makedirs(os.path.dirname(path), exist_ok=True)
         with open(path, "w", encoding="utf-8") as file:
             file.write(made[path])
     for path in strays:
         os.remove(path)
+    if missing:
+        sys.exit("\n".join(missing))
 
 
 if __name__ == "__main__":

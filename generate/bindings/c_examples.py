@@ -1,7 +1,8 @@
 """bindings/c/every_promise.c: a program that calls every export as the header declares it, with the cases that the documentation in Rust shows."""
 from bindings.c_header import answer_type
-from bindings.exports import INTEGER, SLICE, Struct, grouped
-from bindings.promised import cases
+from declared import SLICE, Struct, grouped
+from kinds import BY_NAME
+from meanings import cases
 from templates import filled_file
 
 
@@ -9,7 +10,7 @@ def literal(value, written):
     """A number as C reads it at its type; the least of 64 bits has no form of its own."""
     if written == "bool":
         return str(value).lower()
-    if INTEGER.fullmatch(written).group(1) == "u":
+    if BY_NAME[written].sign == "unsigned":
         return "%du" % value
     return str(value) if value > -(2**63) else "(%d - 1)" % (value + 1)
 

@@ -2,8 +2,9 @@
 import re
 import textwrap
 
-from bindings.exports import INTEGER, SLICE, grouped
-from bindings.promised import about, about_struct, sentence
+from bindings.words import about, about_struct
+from declared import SLICE, grouped
+from kinds import BY_NAME
 from templates import filled_file
 
 WIDTH = 120
@@ -12,10 +13,10 @@ WIDTH = 120
 def c_type(name):
     if name == "bool":
         return name
-    sign, width = INTEGER.fullmatch(name).groups()
-    if width == "size":
-        return {"u": "size_t", "i": "ptrdiff_t"}[sign]
-    return "%sint%s_t" % ("u" if sign == "u" else "", width)
+    kind = BY_NAME[name]
+    if kind.width.is_size:
+        return {"unsigned": "size_t", "signed": "ptrdiff_t"}[kind.sign]
+    return "%sint%d_t" % ("u" if kind.sign == "unsigned" else "", kind.bits)
 
 
 def struct_name(group, struct):
@@ -63,6 +64,6 @@ def structs(found):
 def header(found):
     groups = []
     for group, exported in grouped(found).items():
-        functions = "\n".join(comment(sentence(export)) + declaration(export) for export in exported)
+        functions = "\n".join(comment(export.sentence) + declaration(export) for export in exported)
         groups.append("/* ---- %s\n" % comment(about(group))[3:] + functions)
     return filled_file("bindings/promisebook.h.in", STRUCTS=structs(found), FUNCTIONS="\n".join(groups))

@@ -2,16 +2,14 @@
 from dataclasses import dataclass
 from typing import Callable
 
-from bindings.exports import SLICE, Struct
-from bindings.promised import kind_of, promise_of
+from declared import SLICE, Struct
+from kinds import BY_NAME
 
-# Operations that answer the number of an Ordering.
-ORDERED = ("cmp", "partial_cmp")
 ORDERINGS = {-1: "Ordering::Less", 0: "Ordering::Equal", 1: "Ordering::Greater"}
 
 
 def module(group):
-    return group + "s" if kind_of(group) else group
+    return group + "s" if group in BY_NAME else group
 
 
 def parameters(export):
@@ -46,12 +44,12 @@ class Form:
 def form(export):
     answer = export.answer
     if not is_struct(answer):
-        if export.operation in ORDERED:
+        if export.is_ordered:
             return Form("Ordering", False, "ordering({})".format, ORDERINGS.get)
         if answer == "bool" and export.writes:
             return Form("()", True, "{}.then_some(())".format, lambda value: "()")
         return Form(answer, False, "{}".format, plain)
-    if export.operation in ORDERED:
+    if export.is_ordered:
         return Form("Ordering", True, "ordering({}.value)".format, ORDERINGS.get)
     if answer.value:
         return Form(answer.value, True, "{}.value".format, plain)
@@ -78,7 +76,7 @@ def characters(value):
 
 
 def listed(value, export):
-    if promise_of(export).characters:
+    if export.characters:
         return "*" + characters(value)
     return "[%s]" % ", ".join("0x%02x" % byte if export.group == "text" else str(byte) for byte in value)
 
@@ -87,7 +85,7 @@ def literal(value, written, export):
     """A value of a type; in the family of text, bytes that are text stand as text, and others and scalar values in hexadecimal."""
     if not SLICE.fullmatch(written):
         return hex(value) if export.group == "text" and written == "u32" else str(value)
-    if promise_of(export).characters:
+    if export.characters:
         return characters(value)
     text = value.decode("utf-8", "replace")
     if export.group == "text" and text.isprintable() and text and text.encode() == value:

@@ -2,11 +2,11 @@
 import os
 import textwrap
 
-from bindings.exports import grouped
-from bindings.promised import about, about_struct, sentence
 from bindings.rust_answers import form, is_range, is_struct, module, parameters
 from bindings.rust_examples import example
 from bindings.rust_exported import exported
+from bindings.words import about, about_struct
+from declared import grouped
 from templates import filled_file
 
 # How wide documentation is; code is laid out as rustfmt does by bindings/rust/rustfmt.toml.
@@ -14,7 +14,7 @@ WIDTH = 110
 
 
 def body(export):
-    name = "%s_%s" % (export.group, export.operation) if export.takes_slices else export.symbol
+    name = "%s_%s" % (export.group, export.name) if export.takes_slices else export.symbol
     call = "exported::%s(%s)" % (name, ", ".join(name for name, _ in export.parameters))
     if not is_struct(export.answer):
         return "    %s\n" % form(export).taken(call)
@@ -26,8 +26,8 @@ def documented(lines):
 
 
 def function(export):
-    comments = documented([*textwrap.wrap(sentence(export), WIDTH, break_on_hyphens=False), "", "```", *example(export), "```"])
-    head = "pub fn %s(%s) -> %s {" % (export.operation, parameters(export), form(export).type)
+    comments = documented([*textwrap.wrap(export.sentence, WIDTH, break_on_hyphens=False), "", "```", *example(export), "```"])
+    head = "pub fn %s(%s) -> %s {" % (export.name, parameters(export), form(export).type)
     return "%s#[inline]\n#[must_use]\n%s\n%s}\n" % (comments, head, body(export))
 
 

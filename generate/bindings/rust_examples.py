@@ -1,6 +1,6 @@
 """The example in a function's documentation: a test that calls it, with answers worked out from its meaning."""
-from bindings.promised import cases
 from bindings.rust_answers import form, listed, literal, module
+from meanings import cases
 
 
 def assertion(call, answer, export):
@@ -29,6 +29,6 @@ def example(export):
                 lines.append("let mut %s = %s;" % (name, listed(value, export)))
                 text = "&mut " + name
             values.append(name if name in named else text)
-        lines.append(assertion("%s::%s(%s)" % (module(export.group), export.operation, ", ".join(values)), answer, export))
+        lines.append(assertion("%s::%s(%s)" % (module(export.group), export.name, ", ".join(values)), answer, export))
         lines += ["assert_eq!(%s, %s);" % (name, listed(value, export)) for name, value in after.items()]
     return lines

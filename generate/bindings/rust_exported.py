@@ -1,6 +1,6 @@
 """bindings/rust/src/exported.rs: the declarations, in the only module of the crate that is not safe."""
-from bindings.exports import SLICE
 from bindings.rust_answers import is_struct, parameters
+from declared import SLICE
 from templates import filled_file
 
 
@@ -31,7 +31,7 @@ def safe_call(export):
     for name, written in export.parameters:
         match = SLICE.fullmatch(written)
         values += ["%s.as_%sptr()" % (name, "mut_" if match.group(1) else ""), name + ".len()"] if match else [name]
-    head = "pub fn %s_%s(%s) -> %s {" % (export.group, export.operation, parameters(export), declared_answer(export))
+    head = "pub fn %s_%s(%s) -> %s {" % (export.group, export.name, parameters(export), declared_answer(export))
     return "#[inline]\n%s\n    unsafe { %s(%s) }\n}\n" % (head, export.symbol, ", ".join(values))
 
 

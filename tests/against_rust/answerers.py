@@ -7,6 +7,7 @@ import tempfile
 HERE = os.path.dirname(os.path.abspath(__file__))
 ROOT = os.path.dirname(os.path.dirname(HERE))
 SOURCE = os.path.join(HERE, "std_answers.rs")
+INTEGERS = os.path.join(HERE, "of_integers.rs")
 BUILT = os.path.join(ROOT, "target", "against_rust")
 LEAST_RUSTC = (1, 90)
 SECONDS = 300
@@ -30,8 +31,10 @@ def built(name, version, *flags):
     """The program built from std_answers.rs, again only where the source, the compiler or the flags have changed."""
     os.makedirs(BUILT, exist_ok=True)
     program, stamp = os.path.join(BUILT, name), os.path.join(BUILT, name + ".stamp")
-    with open(SOURCE, encoding="utf-8") as file:
-        now = "\n".join([version, *flags, file.read()])
+    now = "\n".join([version, *flags])
+    for source in (SOURCE, INTEGERS):
+        with open(source, encoding="utf-8") as file:
+            now += "\n" + file.read()
     if os.path.exists(program) and os.path.exists(stamp):
         with open(stamp, encoding="utf-8") as file:
             if file.read() == now:

@@ -2,7 +2,7 @@
 import itertools
 import math
 
-from names import ASKED_WITH, COUNTS, FROM_BYTES, KINDS, TO_BYTES, greatest, least, width
+from names import ASKED_WITH, BY_DISTANCE, KINDS, greatest, least, width
 
 
 def within(kind, values):
@@ -54,7 +54,7 @@ def lines(name, pairs):
 
 
 def of_two(draw, name, kind, other):
-    if name.endswith(("wrapping_shl", "wrapping_shr")):
+    if name in BY_DISTANCE:
         yield from lines(name, itertools.product(edges(kind), distances(kind)))
         yield from lines(name, ((drawn(draw, kind), drawn(draw, "u32") if turn % 2 else draw.randint(0, width(kind))) for turn in range(200)))
         return
@@ -80,7 +80,7 @@ def complete_blocks():
             arguments = pairs.setdefault(asked, every_pair(*asked))
         elif asked == ("u16",):
             arguments = numbers
-        elif name in ["u16." + operation for operation in FROM_BYTES]:
+        elif asked == ("bytes",) and name.startswith("u16."):
             arguments = bytes_of
         else:
             continue
@@ -97,9 +97,11 @@ def runs(bits):
 
 def of_one(draw, name, kind):
     bits = width(kind)
-    values = range(256) if bits == 8 else itertools.chain(range(300), powers(kind), runs(bits), (drawn(draw, kind) for _ in range(300)))
+    all_of_them = range(least(kind), greatest(kind) + 1)
+    values = all_of_them if bits == 8 else itertools.chain(range(300), powers(kind), runs(bits), (drawn(draw, kind) for _ in range(300)))
     for value in dict.fromkeys(values):
-        yield "%s %d" % (name, value)
+        if value in all_of_them:
+            yield "%s %d" % (name, value)
 
 
 def of_bytes(draw, name, kind):
@@ -117,12 +119,12 @@ def of_bytes(draw, name, kind):
 
 def questions(draw):
     for name, asked in ASKED_WITH.items():
-        kind, operation = name.split(".")
+        kind = name.split(".")[0]
         if kind not in KINDS:
             continue
-        if operation in COUNTS + TO_BYTES:
+        if len(asked) == 1 and asked != ("bytes",):
             yield from of_one(draw, name, kind)
-        elif operation in FROM_BYTES:
+        elif asked == ("bytes",):
             yield from of_bytes(draw, name, kind)
-        else:
+        elif len(asked) == 2 and "bytes" not in asked:
             yield from of_two(draw, name, *asked)

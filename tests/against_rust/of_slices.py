@@ -86,6 +86,7 @@ def of_reading(draw, length):
             yield ask("bytes.get", data, f, t, number)
             yield ask("bytes.split_at", data, f, t, number)
             yield ask("bytes.next_piece", data, f, t, number)
+            yield ask("bytes.set", data, f, t, number, draw.randrange(256))
         for a, e in itertools.combinations_with_replacement(numbers[:5], 2) if good else []:
             yield ask("bytes.sub_range", data, f, t, a, e)
         for _ in range(3):
@@ -122,6 +123,7 @@ def drawn(draw):
     yield ask("bytes.starts_with", data, f, t, part[:number])
     yield ask("bytes.ends_with", data, f, t, part[max(0, len(part) - number) :])
     yield ask("bytes.get", data, f, t, number)
+    yield ask("bytes.set", data, f, t, number, draw.randrange(256))
     yield ask("bytes.split_at", data, f, t, number)
     yield ask("bytes.next_piece", data, f, t, number)
     yield ask("bytes.sub_range", data, f, t, draw.randint(0, number), number)

@@ -76,12 +76,14 @@ def of_reading(data):
     yield ask("text.read_first", data, 0, len(data))
     yield ask("text.read_last", data, 0, len(data))
     yield "text.count " + spelled(data)
+    yield "text.valid_up_to " + spelled(data)
 
 
 def of_whole(draw, data):
     """All that is asked of one text."""
     word = spelled(data)
     yield "text.valid " + word
+    yield "text.valid_up_to " + word
     yield "text.count " + word
     yield "text.is_ascii " + word
     for i in draw.sample(range(len(data) + 2), min(3, len(data) + 2)) + [draw.choice([0, 1, 63, 64, 65, len(data), len(data) + 1, LARGEST])]:

@@ -11,6 +11,7 @@ import random
 import sys
 
 import damaged
+import of_decimal
 import of_integers
 import of_slices
 import of_text
@@ -40,7 +41,7 @@ def main_input(seed, complete):
     """The large input. Its last line has no newline."""
     draw = random.Random(seed)
     blocks = list(of_integers.complete_blocks())
-    whole = [*of_integers.questions(draw), *of_slices.questions(draw), *of_text.questions(draw)]
+    whole = [*of_integers.questions(draw), *of_slices.questions(draw), *of_text.questions(draw), *of_decimal.questions(draw)]
     for block in blocks:
         whole += share_of(draw, block)
     assert_covered(whole)

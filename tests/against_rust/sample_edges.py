@@ -3,7 +3,7 @@ import itertools
 import random
 
 from damaged import BAD_WORDS
-from names import ASKED_WITH, COUNTS, KINDS, SHIFTS, greatest, least, width
+from names import ASKED_WITH, BY_DISTANCE, KINDS, greatest, least, width
 from of_integers import near, powers
 from of_slices import LARGEST, STEPS, ask, changed, offsets, spelled
 from of_text import ALPHABETS, BYTE_EDGES, FOLLOWING_EDGES, SCALAR_EDGES, WHITE, form, text_of
@@ -19,12 +19,14 @@ def of_integers():
     for name, asked in ASKED_WITH.items():
         if len(asked) == 2 and "bytes" not in asked:
             yield from ("%s %d %d" % (name, a, b) for a, b in itertools.product(ends[asked[0]], ends[asked[1]]))
-    for kind, operation in itertools.product(KINDS, SHIFTS):
+    for name in BY_DISTANCE:
+        kind = name.split(".")[0]
         for distance in (1, width(kind) - 1, width(kind), width(kind) + 1, 2 * width(kind), 1 << 31):
-            yield "%s.%s %d %d" % (kind, operation, greatest(kind), distance)
-    for kind, operation in itertools.product(("u8", "u16", "u32", "u64"), COUNTS):
-        for value in powers(kind)[:: width(kind) // 8]:
-            yield "%s.%s %d" % (kind, operation, value)
+            yield "%s %d %d" % (name, greatest(kind), distance)
+    for name, asked in ASKED_WITH.items():
+        if len(asked) == 1 and asked[0] == name.split(".")[0]:
+            for value in powers(asked[0])[:: width(asked[0]) // 8]:
+                yield "%s %d" % (name, value)
 
 
 def of_slices(draw):
@@ -47,6 +49,7 @@ def of_slices(draw):
     for f, t in ((0, 5), (1, 4), (2, 2), (3, 2), (0, 6)):
         for name in ("bytes.get", "bytes.split_at", "bytes.next_piece", "bytes.copy_within"):
             yield from (ask(name, few, f, t, number) for number in offsets(f, max(0, t - f)))
+        yield from (ask("bytes.set", few, f, t, number, 255) for number in offsets(f, max(0, t - f)))
         yield from (ask("bytes.sub_range", few, f, t, a, e) for a, e in itertools.product(offsets(f, max(0, t - f))[:8], repeat=2))
         for other in (b"", few, few[f:t], few[f : t + 1], few[max(0, f - 1) : t]):
             yield from (ask(name, few, f, t, other) for name in ("bytes.equal", "bytes.starts_with", "bytes.ends_with"))
@@ -69,6 +72,7 @@ def of_text(draw):
     for first, second in itertools.product(BYTE_EDGES, FOLLOWING_EDGES):
         for rest in ("", "80", "8080"):
             yield "text.valid %02x%02x%s" % (first, second, rest)
+            yield "text.valid_up_to 61%02x%02x%s" % (first, second, rest)
     for alphabet in (ALPHABETS[0], ALPHABETS[1], ALPHABETS[-1]):
         data = text_of(draw, alphabet, LENGTH)
         for place in PLACES:
@@ -83,6 +87,24 @@ def of_text(draw):
             yield "text.split_at %s %d" % (word, i)
 
 
+def of_decimal():
+    """Both ends of each type and their neighbours, as text and into text; room that is one byte too small."""
+    for kind in KINDS:
+        for number in near([least(kind), greatest(kind)]):
+            yield of_text_of_number(kind, b"%d" % number)
+        for text in (b"0", b"-0", b"+1", b"007", b"", b"-", b"1a", b"x5"):
+            yield of_text_of_number(kind, text)
+        yield "%s.read_decimal 6e3d34323b 2 4" % kind
+        for number in (least(kind), greatest(kind), 0, 10):
+            size = len(str(number))
+            for length, at in ((size, 0), (size + 2, 1), (size, 1), (size - 1, 0)):
+                yield "%s.write_decimal %s %d %d" % (kind, spelled(b"." * length), at, number)
+
+
+def of_text_of_number(kind, text):
+    return "%s.read_decimal %s 0 %d" % (kind, spelled(text), len(text))
+
+
 def of_lines():
     yield from ("", " ", " u8.compare 1 1", "u8.compare 1 1 ", "u8.compare  1 1", "u8.compare\t1 1", "u8.compare 1 1\r", "\x00", "\xff\xfe")
     for name in WORDS_ARE_TRIED_IN:
@@ -95,4 +117,4 @@ def of_lines():
 
 def questions():
     draw = random.Random(0)
-    yield from (line.encode("latin-1") for line in itertools.chain(of_lines(), of_integers(), of_slices(draw), of_text(draw)))
+    yield from (line.encode("latin-1") for line in itertools.chain(of_lines(), of_integers(), of_slices(draw), of_text(draw), of_decimal()))

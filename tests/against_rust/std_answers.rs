@@ -180,80 +180,13 @@ fn unless_it_panics<R>(function: impl FnOnce() -> R) -> Option<R> {
 
 // ---- integers
 
-macro_rules! integer {
-    ($kind:ident, one: $($unary:ident)*, two: $($binary:ident)*) => {
-        fn $kind(operation: &str, question: Question) -> Answered {
-            match operation {
-                $(stringify!($unary) => question.one($kind::$unary),)*
-                #[cfg(wrong)]
-                "checked_rem" => question.two(|x: $kind, y: $kind| x.checked_rem(y).or_else(|| (wrong("answer") && y as i128 == -1).then_some(0))),
-                $(stringify!($binary) => question.two($kind::$binary),)*
-                "compare" => question.two(|x: $kind, y: $kind| x.cmp(&y)),
-                _ => bytes_of::$kind(operation, question),
-            }
-        }
-    };
-}
+#[path = "of_integers.rs"]
+mod of_integers;
 
-macro_rules! unsigned {
-    ($kind:ident: $($unary:ident)*) => {
-        integer! {
-            $kind, one: $($unary)*,
-            two: wrapping_add wrapping_sub wrapping_mul wrapping_add_signed wrapping_shl wrapping_shr
-                checked_add checked_sub checked_mul checked_div checked_rem checked_div_euclid checked_rem_euclid checked_next_multiple_of checked_add_signed
-                saturating_add saturating_sub saturating_mul is_multiple_of
-        }
-    };
-}
-
-macro_rules! signed {
-    ($kind:ident) => {
-        integer! {
-            $kind, one:,
-            two: wrapping_add wrapping_sub wrapping_mul wrapping_add_unsigned wrapping_shl wrapping_shr
-                checked_add checked_sub checked_mul checked_div checked_rem checked_div_euclid checked_rem_euclid checked_add_unsigned checked_sub_unsigned
-        }
-    };
-}
-
-unsigned!(u8: leading_zeros trailing_zeros leading_ones trailing_ones);
-unsigned!(u16: leading_zeros trailing_zeros leading_ones trailing_ones);
-unsigned!(u32: leading_zeros trailing_zeros leading_ones trailing_ones);
-unsigned!(u64: leading_zeros trailing_zeros leading_ones trailing_ones);
-unsigned!(usize:);
-signed!(i8);
-signed!(i16);
-signed!(i32);
-signed!(i64);
-signed!(isize);
-
-mod bytes_of {
-    use super::{Answered, NoAnswer, Question};
-
-    macro_rules! has_bytes {
-        ($($kind:ident)*) => {$(
-            pub fn $kind(operation: &str, question: Question) -> Answered {
-                match operation {
-                    "from_le_bytes" => question.one(|b: Vec<u8>| b.try_into().ok().map($kind::from_le_bytes)),
-                    "from_be_bytes" => question.one(|b: Vec<u8>| b.try_into().ok().map($kind::from_be_bytes)),
-                    "to_le_bytes" => question.one($kind::to_le_bytes),
-                    "to_be_bytes" => question.one($kind::to_be_bytes),
-                    _ => Err(NoAnswer::Unknown),
-                }
-            }
-        )*};
-    }
-
-    macro_rules! has_none {
-        ($($kind:ident)*) => {$(
-            pub fn $kind(_: &str, _: Question) -> Answered {
-                Err(NoAnswer::Unknown)
-            }
-        )*};
-    }
-
-    has_bytes!(u16 u32 u64);
-    has_none!(u8 usize i8 i16 i32 i64 isize);
+/// A number's text in some bytes at a place, and its length.
+fn written(mut b: Bytes, at: usize, text: String) -> Option<(Bytes, usize)> {
+    b.get_mut(at..at.checked_add(text.len())?)?.copy_from_slice(text.as_bytes());
+    Some((b, text.len()))
 }
 
 // ---- slices of bytes
@@ -292,6 +225,10 @@ fn bytes(operation: &str, question: Question) -> Answered {
         "ends_with" => question.four(|b: Bytes, f, t, other: Bytes| Some(b.get(f..t)?.ends_with(&other))),
         "equal" => question.four(|b: Bytes, f, t, other: Bytes| Some(b.get(f..t)? == &other[..])),
         "contains" => question.four(|b: Bytes, f, t, v: u8| Some(b.get(f..t)?.contains(&v))),
+        "set" => question.five(|mut b: Bytes, f, t, i: usize, v: u8| {
+            *b.get_mut(f..t)?.get_mut(i)? = v;
+            Some(b)
+        }),
         "reverse" => question.three(|mut b: Bytes, f, t| {
             b.get_mut(f..t)?.reverse();
             Some(b)
@@ -318,6 +255,7 @@ fn bytes(operation: &str, question: Question) -> Answered {
 fn text(operation: &str, question: Question) -> Answered {
     match operation {
         "valid" => question.one(|b: Bytes| from_utf8(&b).is_ok()),
+        "valid_up_to" => question.one(|b: Bytes| from_utf8(&b).map_or_else(|wrong| wrong.valid_up_to(), str::len)),
         "scalar_len" => question.one(|c| Some(char::from_u32(c)?.len_utf8())),
         "write" => question.three(|mut b: Bytes, at: usize, c| {
             let c = char::from_u32(c)?;
@@ -354,16 +292,16 @@ fn text(operation: &str, question: Question) -> Answered {
 fn named(name: &[u8], question: Question) -> Answered {
     let (family, operation) = from_utf8(name).ok().and_then(|name| name.split_once('.')).ok_or(NoAnswer::Unknown)?;
     let answered = match family {
-        "u8" => u8,
-        "u16" => u16,
-        "u32" => u32,
-        "u64" => u64,
-        "usize" => usize,
-        "i8" => i8,
-        "i16" => i16,
-        "i32" => i32,
-        "i64" => i64,
-        "isize" => isize,
+        "u8" => of_integers::u8,
+        "u16" => of_integers::u16,
+        "u32" => of_integers::u32,
+        "u64" => of_integers::u64,
+        "usize" => of_integers::usize,
+        "i8" => of_integers::i8,
+        "i16" => of_integers::i16,
+        "i32" => of_integers::i32,
+        "i64" => of_integers::i64,
+        "isize" => of_integers::isize,
         "bytes" => bytes,
         "text" => text,
         _ => return Err(NoAnswer::Unknown),
@@ -377,7 +315,16 @@ fn answered(line: &[u8], out: &mut Vec<u8>) -> Answered {
     }
     let mut words = line.split(|byte| *byte == b' ');
     let name = words.next().ok_or(NoAnswer::Malformed)?;
-    named(name, Question { words: words.collect(), out })
+    #[cfg(wrong)]
+    let start = out.len();
+    named(name, Question { words: words.collect(), out: &mut *out })?;
+    // The wrong answerer says that the remainder of the least number by -1 is 0.
+    #[cfg(wrong)]
+    if wrong("answer") && name.ends_with(b".checked_rem") && line.ends_with(b" -1") && &out[start..] == b"refused" {
+        out.truncate(start);
+        out.push(b'0');
+    }
+    Ok(())
 }
 
 #[cfg(wrong)]

@@ -64,7 +64,7 @@ fn behind_space(line: &mut [u8], question: Joined, i: usize) -> Joined {
     if !question.ok {
         return TOO_LONG;
     }
-    let next = answers::words(line, at, b" ");
+    let next = spelled::words(line, at, b" ");
     if next == at {
         return TOO_LONG;
     }

@@ -1,19 +1,17 @@
-// What `ask --help` says: how to ask, and every name with its arguments.
-use questions::bytes;
-use questions::digits;
-use questions::integers;
-use questions::places;
-use questions::text;
+// What `ask --help` says: how to ask, and every name with its arguments (written by generate/ from the table of operations).
 
 pub fn print() {
     how_to_ask();
     legend_of_integers();
-    list(UNSIGNED, &integers::NAMES);
-    list(SIGNED, &integers::NAMES);
-    list(DIGITS, &digits::NAMES);
+    list_t();
+    list_t_2();
+    list_s();
+    list_s_2();
+    list_u();
+    list_w();
     legend_of_bytes();
-    list(BYTES, &bytes::NAMES);
-    list(TEXT, &text::NAMES);
+    list_bytes();
+    list_text();
 }
 
 fn how_to_ask() {
@@ -36,7 +34,7 @@ fn legend_of_integers() {
         b"\nT: u8 u16 u32 u64 usize. S: i8 i16 i32 i64 isize. U: u8 u16 u32 u64. W: u16 u32 u64.\n",
     );
     show::text(
-        b"x, y: numbers of the type, y one of the other sign where the name ends in that sign. d: a u32. b: bytes.\n\n",
+        b"x, y: numbers of the type, y one of the other sign where the name ends in that sign. d: a u32. b: bytes.\nb f t, at: as below.\n\n",
     );
 }
 
@@ -47,121 +45,120 @@ fn legend_of_bytes() {
     );
 }
 
-// ---- the names
-
-const UNSIGNED: u8 = 0;
-
-const SIGNED: u8 = 1;
-
-const DIGITS: u8 = 2;
-
-const BYTES: u8 = 3;
-
-const TEXT: u8 = 4;
-
-// A line for each word of the list.
-fn list(group: u8, names: &[u8]) {
-    let mut operation = 0;
-    let mut at = 0;
-    while operation < 255 {
-        let end = places::first_from(names, at, b' ');
-        line(group, operation, names, at, end);
-        if end == names.len() {
-            return;
-        }
-        operation += 1;
-        at = end + 1;
-    }
+fn list_t() {
+    show::text(b"    T.wrapping_add x y\n");
+    show::text(b"    T.wrapping_add_signed x y\n");
+    show::text(b"    T.wrapping_sub x y\n");
+    show::text(b"    T.wrapping_mul x y\n");
+    show::text(b"    T.wrapping_shl x d\n");
+    show::text(b"    T.wrapping_shr x d\n");
+    show::text(b"    T.checked_add x y\n");
+    show::text(b"    T.checked_add_signed x y\n");
+    show::text(b"    T.checked_sub x y\n");
+    show::text(b"    T.checked_mul x y\n");
+    show::text(b"    T.checked_next_multiple_of x y\n");
+    show::text(b"    T.checked_div x y\n");
+    show::text(b"    T.checked_div_euclid x y\n");
+    show::text(b"    T.checked_rem x y\n");
+    show::text(b"    T.checked_rem_euclid x y\n");
+    show::text(b"    T.saturating_add x y\n");
+    show::text(b"    T.saturating_sub x y\n");
+    show::text(b"    T.saturating_mul x y\n");
+    show::text(b"    T.is_multiple_of x y\n");
+    show::text(b"    T.clone x\n");
 }
 
-// names[from..to], where the group has it.
-fn line(group: u8, operation: u8, names: &[u8], from: usize, to: usize) {
-    if to < from {
-        return;
-    }
-    if names.len() < to {
-        return;
-    }
-    if has(group, operation) {
-        types(group, operation);
-        show::text(&names[from..to]);
-        takes(group, operation);
-        show::text(b"\n");
-    }
+fn list_t_2() {
+    show::text(b"    T.eq x y\n");
+    show::text(b"    T.ne x y\n");
+    show::text(b"    T.lt x y\n");
+    show::text(b"    T.le x y\n");
+    show::text(b"    T.gt x y\n");
+    show::text(b"    T.ge x y\n");
+    show::text(b"    T.cmp x y\n");
+    show::text(b"    T.compare x y\n");
+    show::text(b"    T.partial_cmp x y\n");
+    show::text(b"    T.read_decimal b f t\n");
+    show::text(b"    T.write_decimal b at x\n");
 }
 
-fn has(group: u8, operation: u8) -> bool {
-    match group {
-        UNSIGNED => numbered::has(numbered::U8, operation),
-        SIGNED => numbered::has(numbered::I8, operation),
-        _ => true,
-    }
+fn list_s() {
+    show::text(b"    S.wrapping_add x y\n");
+    show::text(b"    S.wrapping_add_unsigned x y\n");
+    show::text(b"    S.wrapping_sub x y\n");
+    show::text(b"    S.wrapping_mul x y\n");
+    show::text(b"    S.wrapping_shl x d\n");
+    show::text(b"    S.wrapping_shr x d\n");
+    show::text(b"    S.checked_add x y\n");
+    show::text(b"    S.checked_add_unsigned x y\n");
+    show::text(b"    S.checked_sub x y\n");
+    show::text(b"    S.checked_sub_unsigned x y\n");
+    show::text(b"    S.checked_mul x y\n");
+    show::text(b"    S.checked_div x y\n");
+    show::text(b"    S.checked_div_euclid x y\n");
+    show::text(b"    S.checked_rem x y\n");
+    show::text(b"    S.checked_rem_euclid x y\n");
+    show::text(b"    S.clone x\n");
+    show::text(b"    S.eq x y\n");
+    show::text(b"    S.ne x y\n");
+    show::text(b"    S.lt x y\n");
+    show::text(b"    S.le x y\n");
 }
 
-fn types(group: u8, operation: u8) {
-    match group {
-        UNSIGNED => show::text(b"    T."),
-        SIGNED => show::text(b"    S."),
-        DIGITS => widths(operation),
-        BYTES => show::text(b"    bytes."),
-        _ => show::text(b"    text."),
-    }
+fn list_s_2() {
+    show::text(b"    S.gt x y\n");
+    show::text(b"    S.ge x y\n");
+    show::text(b"    S.cmp x y\n");
+    show::text(b"    S.compare x y\n");
+    show::text(b"    S.partial_cmp x y\n");
+    show::text(b"    S.read_decimal b f t\n");
+    show::text(b"    S.write_decimal b at x\n");
 }
 
-fn widths(operation: u8) {
-    if digits::has(numbered::U8, operation) {
-        show::text(b"    U.");
-    } else {
-        show::text(b"    W.");
-    }
+fn list_u() {
+    show::text(b"    U.leading_zeros x\n");
+    show::text(b"    U.leading_ones x\n");
+    show::text(b"    U.trailing_zeros x\n");
+    show::text(b"    U.trailing_ones x\n");
 }
 
-// ---- what each takes
-
-fn takes(group: u8, operation: u8) {
-    match group {
-        UNSIGNED | SIGNED => two_numbers(operation),
-        DIGITS => number_or_bytes(operation),
-        BYTES => part(operation),
-        _ => of_text(operation),
-    }
+fn list_w() {
+    show::text(b"    W.from_le_bytes b\n");
+    show::text(b"    W.to_le_bytes x\n");
+    show::text(b"    W.from_be_bytes b\n");
+    show::text(b"    W.to_be_bytes x\n");
 }
 
-fn two_numbers(operation: u8) {
-    if numbered::is_shift(operation) {
-        show::text(b" x d");
-    } else {
-        show::text(b" x y");
-    }
+fn list_bytes() {
+    show::text(b"    bytes.len b f t\n");
+    show::text(b"    bytes.is_empty b f t\n");
+    show::text(b"    bytes.get b f t i\n");
+    show::text(b"    bytes.first b f t\n");
+    show::text(b"    bytes.last b f t\n");
+    show::text(b"    bytes.sub_range b f t a e\n");
+    show::text(b"    bytes.split_at b f t m\n");
+    show::text(b"    bytes.split_first b f t\n");
+    show::text(b"    bytes.next_piece b f t n\n");
+    show::text(b"    bytes.starts_with b f t other\n");
+    show::text(b"    bytes.ends_with b f t other\n");
+    show::text(b"    bytes.contains b f t v\n");
+    show::text(b"    bytes.equal b f t other\n");
+    show::text(b"    bytes.set b f t i v\n");
+    show::text(b"    bytes.reverse b f t\n");
+    show::text(b"    bytes.copy_from b f t other\n");
+    show::text(b"    bytes.copy_within b f t at\n");
 }
 
-fn number_or_bytes(operation: u8) {
-    match operation {
-        digits::FROM_LE_BYTES | digits::FROM_BE_BYTES => show::text(b" b"),
-        _ => show::text(b" x"),
-    }
-}
-
-fn part(operation: u8) {
-    show::text(b" b f t");
-    match operation {
-        bytes::LEN..=bytes::REVERSE => {}
-        bytes::GET => show::text(b" i"),
-        bytes::SPLIT_AT => show::text(b" m"),
-        bytes::COPY_WITHIN => show::text(b" at"),
-        bytes::NEXT_PIECE => show::text(b" n"),
-        bytes::SUB_RANGE => show::text(b" a e"),
-        bytes::CONTAINS => show::text(b" v"),
-        _ => show::text(b" other"),
-    }
-}
-
-fn of_text(operation: u8) {
-    match operation {
-        text::SCALAR_LEN | text::IS_WHITE_SPACE => show::text(b" c"),
-        text::IS_BOUNDARY | text::SPLIT_AT => show::text(b" b i"),
-        text::READ_FIRST | text::READ_LAST => show::text(b" b f t"),
-        text::WRITE => show::text(b" b at c"),
-        _ => show::text(b" b"),
-    }
+fn list_text() {
+    show::text(b"    text.scalar_len c\n");
+    show::text(b"    text.is_white_space c\n");
+    show::text(b"    text.write b at c\n");
+    show::text(b"    text.read_first b f t\n");
+    show::text(b"    text.read_last b f t\n");
+    show::text(b"    text.valid b\n");
+    show::text(b"    text.count b\n");
+    show::text(b"    text.is_boundary b i\n");
+    show::text(b"    text.split_at b i\n");
+    show::text(b"    text.is_ascii b\n");
+    show::text(b"    text.valid_up_to b\n");
 }

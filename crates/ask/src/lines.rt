@@ -2,7 +2,7 @@
 use libc::STDIN_FILENO;
 use libc::STDOUT_FILENO;
 use questions::answers;
-use questions::places;
+use words::places;
 
 // What is known between two reads: how many bytes of a line are held, whether it has more than can be held, how many bytes of answers are still to be
 // written, and whether there is anything left to do.

@@ -1,5 +1,5 @@
 // Every operation on integers of 16, 32 and 64 bits and the size type, at the edges of its first argument crossed with those of its second.
-// A line for each operation and first argument holds the answers for all second arguments. generate/programs.py works out crates/edges/stdout.
+// A line for each operation and first argument holds the answers for all second arguments. generate/edges.py works out crates/edges/stdout from meanings of their own.
 ghost use Prim.Native.Nat.{_<_, _≤_};
 
 // ---- the arguments, as bits
@@ -91,20 +91,51 @@ const DISTANCES: u64 = 12;
 
 // ---- the answers
 
-fn cell(kind: u8, operation: u8, a: u64, b: u64) {
+fn cell(kind: u8, operation: u8, a: u64, b: u64, c: u64) {
     show::text(b" ");
-    show::answer(kind, operation, numbered::run(kind, operation, a, b));
+    show::answer(
+        kind,
+        operation,
+        numbered_integers::run(kind, operation, numbered::three(a, b, c)),
+    );
 }
 
-fn shifts(kind: u8, operation: u8, a: u64) {
-    for place in 0..DISTANCES {
-        cell(kind, operation, a, distance(kind, place));
+// How many values of an argument are tried.
+fn values(kind: u8, operation: u8, place: usize) -> u64 {
+    match numbered::taken(operation, place) {
+        b'.' => 1,
+        b't' => 2,
+        b'x' | b'o' => edges(numbered::takes(kind, operation, place)),
+        _ => DISTANCES,
     }
 }
 
-fn others(kind: u8, operation: u8, a: u64, second: u8, count: u64) {
-    for place in 0..count {
-        cell(kind, operation, a, edge(second, place));
+// Such a value by its number: what is no number of the kind or of the other sign is a distance.
+fn value(kind: u8, operation: u8, place: usize, number: u64) -> u64 {
+    match numbered::taken(operation, place) {
+        b'.' => 0,
+        b't' => number,
+        b'x' | b'o' => edge(numbered::takes(kind, operation, place), number),
+        _ => distance(kind, number),
+    }
+}
+
+fn cells(kind: u8, operation: u8, a: u64, b: u64, count: u64) {
+    for number in 0..count {
+        cell(kind, operation, a, b, value(kind, operation, 2, number));
+    }
+}
+
+fn seconds(kind: u8, operation: u8, a: u64, count: u64) {
+    let thirds = values(kind, operation, 2);
+    for number in 0..count {
+        cells(
+            kind,
+            operation,
+            a,
+            value(kind, operation, 1, number),
+            thirds,
+        );
     }
 }
 
@@ -113,12 +144,7 @@ fn line(kind: u8, operation: u8, a: u64) {
     show::text(b" ");
     show::number(kind, a);
     show::text(b":");
-    if numbered::is_shift(operation) {
-        shifts(kind, operation, a);
-    } else {
-        let second = numbered::second_kind(kind, operation);
-        others(kind, operation, a, second, edges(second));
-    }
+    seconds(kind, operation, a, values(kind, operation, 1));
     show::text(b"\n");
 }
 

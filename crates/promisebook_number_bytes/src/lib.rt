@@ -1,12 +1,11 @@
 // A number's bytes. Lowest first, what vstd promises, kept: each function's contract is vstd's shifts and masks (vstd_number_bytes, specs/Bytes.antt), and its
 // body a call of ours. Highest first, of which vstd promises nothing, the contracts are those of the operations themselves.
-ghost use mathlib.Core.Path.{_≡_};
 ghost use lib.IntN.{pos};
 ghost use Rattle.theory_answers.specs.Answer.{Answers};
 ghost use Rattle.theory_lists.specs.Written.{Writes};
 ghost use Rattle.theory_digits.specs.Digits.{digitsHigh};
 ghost use Rattle.theory_digits.specs.Number.{numberHigh};
-ghost use Rattle.vstd_number_bytes.specs.Bytes.{from-le-bytes, spec-to-le-bytes};
+ghost use Rattle.vstd_number_bytes.specs.Bytes.{spec-to-le-bytes, from-le-bytes};
 
 // ---- 16 bits
 

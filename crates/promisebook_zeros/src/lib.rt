@@ -1,6 +1,6 @@
 // What vstd promises of zeros and ones, kept: each function's contract is vstd's count by halving (specs/Zeros.antt), and its body a call of ours.
 ghost use mathlib.Core.Path.{_≡_};
-ghost use Rattle.vstd_zeros.specs.Zeros.{vstd-leading-zeros, vstd-leading-ones, vstd-trailing-zeros, vstd-trailing-ones};
+ghost use Rattle.vstd_zeros.specs.Zeros.{vstd-trailing-zeros, vstd-leading-zeros, vstd-trailing-ones, vstd-leading-ones};
 
 // ---- 8 bits
 

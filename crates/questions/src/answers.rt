@@ -1,65 +1,25 @@
 // Answers: what is said, and how it is written into `out` from a place on. Each writer answers the place behind what it wrote. Where there is no room it writes
 // nothing: whoever calls it keeps room for an answer.
+use numbered::Answer;
+use spelled::words;
 
-// What a question is answered. A number has its kind and its bits; of bytes it is said how many, and they stand at the start of the room that was lent for them.
+// What a question is answered: the kind, the operation, how many bytes the room has that was lent, and the numbers.
 pub enum Said {
     Unknown,
     Malformed,
     Refused,
-    Truth(bool),
-    Order(u64),
-    Number(u8, u64),
-    Pair(u64, u64),
-    Triple(u64, u64, u64),
-    Bytes(usize),
+    Found(u8, u8, usize, Answer),
 }
-
-// ---- what may be refused
-
-pub fn truth_or_refused(ok: bool, yes: bool) -> Said {
-    if ok { Said::Truth(yes) } else { Said::Refused }
-}
-
-// A number without a sign, of any width.
-pub fn number_or_refused(ok: bool, n: u64) -> Said {
-    if ok {
-        Said::Number(numbered::U64, n)
-    } else {
-        Said::Refused
-    }
-}
-
-pub fn bytes_or_refused(ok: bool, n: usize) -> Said {
-    if ok { Said::Bytes(n) } else { Said::Refused }
-}
-
-// ---- writing
 
 pub fn write(said: Said, bytes: &[u8], out: &mut [u8], at: usize) -> usize {
     match said {
         Said::Unknown => words(out, at, b"unknown"),
         Said::Malformed => malformed(out, at),
         Said::Refused => words(out, at, b"refused"),
-        Said::Truth(yes) => truth(out, at, yes),
-        Said::Order(number) => order(out, at, number),
-        Said::Number(kind, bits) => crate::numbers::write(kind, out, at, bits),
-        Said::Pair(first, second) => pair(out, at, first, second),
-        Said::Triple(first, second, third) => triple(out, at, first, second, third),
-        Said::Bytes(n) => spelled(bytes, n, out, at),
+        Said::Found(kind, operation, length, answer) => {
+            found(kind, operation, bytes, length, answer, out, at)
+        }
     }
-}
-
-pub fn words(out: &mut [u8], at: usize, said: &[u8]) -> usize {
-    let n = said.len();
-    if out.len() < n {
-        return at;
-    }
-    if out.len() - n < at {
-        return at;
-    }
-    let end = at + n;
-    promisebook_slices::pb_bytes_copy_from(out, at, end, said);
-    end
 }
 
 pub fn malformed(out: &mut [u8], at: usize) -> usize {
@@ -70,43 +30,64 @@ pub fn line_end(out: &mut [u8], at: usize) -> usize {
     words(out, at, b"\n")
 }
 
-fn truth(out: &mut [u8], at: usize, yes: bool) -> usize {
-    if yes {
-        words(out, at, b"true")
-    } else {
-        words(out, at, b"false")
-    }
-}
-
-fn order(out: &mut [u8], at: usize, number: u64) -> usize {
-    match number {
-        numbered::LESS => words(out, at, b"less"),
-        numbered::EQUAL => words(out, at, b"equal"),
-        _ => words(out, at, b"greater"),
-    }
-}
-
-fn natural(out: &mut [u8], at: usize, n: u64) -> usize {
-    crate::numbers::write(numbered::U64, out, at, n)
-}
-
-// Two numbers, with a space between.
-fn pair(out: &mut [u8], at: usize, first: u64, second: u64) -> usize {
-    let next = natural(out, at, first);
-    let behind = words(out, next, b" ");
-    natural(out, behind, second)
-}
-
-fn triple(out: &mut [u8], at: usize, first: u64, second: u64, third: u64) -> usize {
-    let next = pair(out, at, first, second);
-    let behind = words(out, next, b" ");
-    natural(out, behind, third)
-}
-
-// The first n of the bytes.
-fn spelled(bytes: &[u8], n: usize, out: &mut [u8], at: usize) -> usize {
-    if bytes.len() < n {
+// The parts of an answer, with single spaces between.
+fn found(
+    kind: u8,
+    operation: u8,
+    bytes: &[u8],
+    length: usize,
+    answer: Answer,
+    out: &mut [u8],
+    at: usize,
+) -> usize {
+    if bytes.len() < length {
         return at;
     }
-    crate::hex::write(out, at, &bytes[0..n])
+    let s = &bytes[0..length];
+    let high = answer.first_high;
+    let second = part(
+        numbered::says(kind, operation, 0),
+        s,
+        answer.first,
+        high,
+        out,
+        at,
+    );
+    let third = next(
+        numbered::says(kind, operation, 1),
+        s,
+        answer.second,
+        out,
+        second,
+    );
+    let fourth = next(
+        numbered::says(kind, operation, 2),
+        s,
+        answer.third,
+        out,
+        third,
+    );
+    next(
+        numbered::says(kind, operation, 3),
+        s,
+        answer.fourth,
+        out,
+        fourth,
+    )
+}
+
+fn next(kind: u8, s: &[u8], bits: u64, out: &mut [u8], at: usize) -> usize {
+    if kind == numbered::NOTHING {
+        return at;
+    }
+    let behind = words(out, at, b" ");
+    part(kind, s, bits, 0, out, behind)
+}
+
+fn part(kind: u8, s: &[u8], low: u64, high: u64, out: &mut [u8], at: usize) -> usize {
+    if kind == numbered::SLICE {
+        spelled::hex::write(out, at, s)
+    } else {
+        spelled::write(kind, out, at, low, high)
+    }
 }

@@ -27,58 +27,18 @@ fn width(k: u8) {
 }
 
 pub fn operation(o: u8) {
-    match o {
-        numbered::WRAPPING_ADD..=numbered::WRAPPING_SHR => wrapping(o),
-        numbered::CHECKED_ADD..=numbered::CHECKED_NEXT_MULTIPLE_OF => checked(o),
-        numbered::SATURATING_ADD..=numbered::SATURATING_MUL => saturating(o),
-        numbered::IS_MULTIPLE_OF => text(b"is_multiple_of"),
-        _ => text(b"compare"),
-    }
+    let word = words::list::word(&numbered::NAMES, o);
+    named(&numbered::NAMES, word.from, word.to);
 }
 
-fn wrapping(o: u8) {
-    text(b"wrapping_");
-    match o {
-        numbered::WRAPPING_ADD => text(b"add"),
-        numbered::WRAPPING_ADD_SIGNED => text(b"add_signed"),
-        numbered::WRAPPING_ADD_UNSIGNED => text(b"add_unsigned"),
-        numbered::WRAPPING_SUB => text(b"sub"),
-        numbered::WRAPPING_MUL => text(b"mul"),
-        numbered::WRAPPING_SHL => text(b"shl"),
-        _ => text(b"shr"),
+fn named(list: &[u8], from: usize, to: usize) {
+    if to < from {
+        return;
     }
-}
-
-fn checked(o: u8) {
-    text(b"checked_");
-    match o {
-        numbered::CHECKED_ADD => text(b"add"),
-        numbered::CHECKED_ADD_SIGNED => text(b"add_signed"),
-        numbered::CHECKED_ADD_UNSIGNED => text(b"add_unsigned"),
-        numbered::CHECKED_SUB => text(b"sub"),
-        numbered::CHECKED_SUB_UNSIGNED => text(b"sub_unsigned"),
-        numbered::CHECKED_MUL => text(b"mul"),
-        _ => checked_division(o),
+    if list.len() < to {
+        return;
     }
-}
-
-fn checked_division(o: u8) {
-    match o {
-        numbered::CHECKED_DIV => text(b"div"),
-        numbered::CHECKED_REM => text(b"rem"),
-        numbered::CHECKED_DIV_EUCLID => text(b"div_euclid"),
-        numbered::CHECKED_REM_EUCLID => text(b"rem_euclid"),
-        _ => text(b"next_multiple_of"),
-    }
-}
-
-fn saturating(o: u8) {
-    text(b"saturating_");
-    match o {
-        numbered::SATURATING_ADD => text(b"add"),
-        numbered::SATURATING_SUB => text(b"sub"),
-        _ => text(b"mul"),
-    }
+    text(&list[from..to]);
 }
 
 // `u8.wrapping_add`
@@ -100,21 +60,38 @@ pub fn number(k: u8, bits: u64) {
 
 // A refusal has the value 0; any other value of one is shown.
 pub fn answer(k: u8, o: u8, a: Answer) {
-    if a.ok {
-        value(k, o, a.bits);
-    } else if a.bits == 0 {
+    if !a.ok {
         text(b"refused");
-    } else {
-        text(b"refused with ");
-        value(k, o, a.bits);
     }
+    if !a.ok & is_zero(a) {
+        return;
+    }
+    if !a.ok {
+        text(b" with ");
+    }
+    value(numbered::says(k, o, 0), a.first);
+    next(numbered::says(k, o, 1), a.second);
+    next(numbered::says(k, o, 2), a.third);
+    next(numbered::says(k, o, 3), a.fourth);
 }
 
-fn value(k: u8, o: u8, bits: u64) {
-    match o {
-        numbered::IS_MULTIPLE_OF => yes_or_no(bits),
-        numbered::COMPARE => order(bits),
-        _ => number(k, bits),
+fn is_zero(a: Answer) -> bool {
+    (a.first == 0) & (a.first_high == 0) & (a.second == 0) & (a.third == 0) & (a.fourth == 0)
+}
+
+fn next(kind: u8, bits: u64) {
+    if kind == numbered::NOTHING {
+        return;
+    }
+    text(b" ");
+    value(kind, bits);
+}
+
+fn value(kind: u8, bits: u64) {
+    match kind {
+        numbered::TRUTH => yes_or_no(bits),
+        numbered::ORDER => order(bits),
+        _ => number(kind, bits),
     }
 }
 

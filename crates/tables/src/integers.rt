@@ -46,9 +46,13 @@ fn line(kind: u8, operation: u8, a: u64, b: u64) {
     show::text(b" ");
     show::number(kind, a);
     show::text(b" ");
-    show::number(numbered::second_kind(kind, operation), b);
+    show::number(numbered::takes(kind, operation, 1), b);
     show::text(b" = ");
-    show::answer(kind, operation, numbered::run(kind, operation, a, b));
+    show::answer(
+        kind,
+        operation,
+        numbered_integers::run(kind, operation, numbered::three(a, b, 0)),
+    );
     show::text(b"\n");
 }
 

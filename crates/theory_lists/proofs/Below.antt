@@ -1,19 +1,17 @@
--- Lists of numbers that are all below one: by index, of joined lists and of parts, and from the front.
-use mathlib.Core.Path.{_≡_, sym, ap, _∙_, subst}
-use mathlib.Core.Bool.{Bool, _&&_}
+-- Lists of numbers that are all below one: by index, of joined lists and of parts, and as a test of each place.
+use mathlib.Core.Path.{_≡_, subst}
+use mathlib.Core.Bool.{Bool}
 use mathlib.Core.List.{List, [], _∷_, _++_, reverse, reverse-cons}
 use Prim.Native.Nat.{ℕ, zero, suc, _+_, _-_, _≤_, _<_}
-use native.Mathlib.Numerals.{add-one}
 use native.Mathlib.Omega.{arith}
-use lib.Dec.{ltb}
-use lib.ListN.{length, getD, take, drop, take-append-drop}
-use lib.Seq.{take-suc, take-add, take-all, take-take}
+use lib.ListN.{length, getD, take, drop, length-take}
+use borrow.Author.Tests.{lt-ltb, ltb-true}
 use Rattle.theory_answers.specs.Says.{Says}
 use Rattle.theory_answers.proofs.Says.{says-alike}
-use Rattle.theory_answers.proofs.Tests.{says-less, says-both}
 use Rattle.theory_lists.specs.Part.{part, Within}
 use Rattle.theory_lists.specs.Bounds.{AllBelow}
-use Rattle.theory_lists.proofs.Part.{length-part, getD-part, part-none, part-rest, part-append, part-cons}
+use Rattle.theory_lists.specs.Search.{All, holdsAt, below}
+use Rattle.theory_lists.proofs.Part.{length-part, getD-part, part-whole}
 
 pub below-at : (b i : ℕ) (ds : List ℕ) → AllBelow b ds → i < length ds → getD ds i 0 < b
 unfolding AllBelow
@@ -65,38 +63,22 @@ module _ (b : ℕ) (s : List ℕ) where
       subst (λ (k : ℕ). getD s k 0 < b) e
       (rw (getD-part f t s (j - f) (omega arith)) at (below-at b (j - f) (part f t s) h (omega (arith, length-part w))))
 
-  pub below-one : (f : ℕ) → f < length s → getD s f 0 < b → AllBelow b (part f (f + 1) s)
-  unfolding AllBelow
-  below-one f l h = rw (part-cons f (f + 1) s (omega arith) (omega arith), part-none) (h, tt)
+  -- ---- as a test of each place
 
-  pub below-join : (f m t : ℕ) → f ≤ m → m ≤ t → AllBelow b (part f m s) → AllBelow b (part m t s) → AllBelow b (part f t s)
-  below-join f m t h l x y = rw (part-append f m t s h l) at (below-append b (part f m s) (part m t s) x y)
+  pub below-is-all : {f t : ℕ} → Within f t s → AllBelow b (part f t s) → All (holdsAt (below b) s) f t
+  below-is-all w h k l m = lt-ltb (getD s k 0) b (below-in-part w h k l m)
 
-  -- ---- from the front
+  pub all-is-below : (f t : ℕ) → All (holdsAt (below b) s) f t → AllBelow b (part f t s)
+  all-is-below f t x =
+      all-below b (part f t s)
+      (λ k l.
+      let m : k < t - f = omega (arith, length-take (t - f) (drop f s)) in
+      rw (getD-part f t s k m) (ltb-true (getD s (f + k) 0) b (x (f + k) (omega arith) (omega arith))))
 
-  pub below-block : (i n : ℕ) → i ≤ n → AllBelow b (take i s) → AllBelow b (part i n s) → AllBelow b (take n s)
-  below-block i n h x y =
-      let m : i + (n - i) ≡ n = omega arith in
-      let e : take n s ≡ take i s ++ part i n s = ap (λ (k : ℕ). take k s) (sym m) ∙ take-add i (n - i) s in
-      rw e (below-append b (take i s) (part i n s) x y)
+  pub says-part-below : (ok : Bool) {f t : ℕ} → Within f t s → Says ok (AllBelow b (part f t s)) → Says ok (All (holdsAt (below b) s) f t)
+  says-part-below ok {f} {t} w = says-alike ok (below-is-all w) (all-is-below f t)
 
-  pub says-below-next : (ok : Bool) (i : ℕ) → i < length s
-      → Says ok (AllBelow b (take i s)) → Says (ok && ltb (getD s i 0) b) (AllBelow b (take (i + 1) s))
-  unfolding AllBelow
-  says-below-next ok i h k =
-      let x = getD s i 0 in
-      rw (add-one, take-suc s i 0 h)
-      (says-alike (ok && ltb x b) (λ p. below-append b (take i s) (x ∷ []) (p .0) (p .1, tt))
-      (λ a. let r = below-parts b (take i s) (x ∷ []) a in (r .0, r .1 .0))
-      (says-both ok (ltb x b) (AllBelow b (take i s)) (x < b) k (says-less x b)))
-
-  pub says-below-whole : (ok : Bool) (i : ℕ) → length s ≤ i → Says ok (AllBelow b (take i s)) → Says ok (AllBelow b s)
-  says-below-whole ok i h k = rw (take-all i s h) at k
-
-  pub says-below-rest : (ok : Bool) (i last : ℕ) → last ≤ i → AllBelow b (take i s)
-      → Says ok (AllBelow b (part last (length s) s)) → Says ok (AllBelow b s)
-  says-below-rest ok i last h r =
-      says-alike ok
-      (λ a. rw (take-append-drop last s) at
-      (below-append b (take last s) (drop last s) (rw (take-take last i s h) at (below-take b last (take i s) r)) (rw (part-rest last s) at a)))
-      (part-below last (length s))
+  pub says-below : (ok : Bool) → Says ok (All (holdsAt (below b) s) 0 (length s)) → Says ok (AllBelow b s)
+  says-below ok =
+      says-alike ok (λ x. rw part-whole at (all-is-below 0 (length s) x))
+      (λ h k l m. lt-ltb (getD s k 0) b (below-at b k s h m))

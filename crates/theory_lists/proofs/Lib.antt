@@ -1,5 +1,6 @@
 pub mod Between
 pub mod Part
+pub mod Search
 pub mod Below
 pub mod Listed
 pub mod Written

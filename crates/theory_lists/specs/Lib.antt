@@ -1,4 +1,5 @@
 pub mod Bounds
+pub mod Search
 pub mod Part
 pub mod Written
 pub mod Pieces

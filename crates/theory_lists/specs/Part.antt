@@ -1,10 +1,10 @@
 -- A part of a list, by the place where it begins and the place where it ends.
-use mathlib.Core.Path.{_≡_}
 use mathlib.Core.Bool.{Bool, _&&_, cond}
 use mathlib.Core.List.{List, []}
-use Prim.Native.Nat.{ℕ, _-_, _≤_, _<_}
+use Prim.Native.Nat.{ℕ, _-_, _≤_}
 use lib.Dec.{leb}
-use lib.ListN.{length, getD, take, drop}
+use lib.ListN.{length, take, drop}
+use Rattle.theory_lists.specs.Search.{Any, holdsAt, is}
 
 -- the elements of s from place f up to and without place t
 abbrev pub part : ℕ → ℕ → List ℕ → List ℕ
@@ -23,8 +23,6 @@ isWithin f t s = leb f t && leb t (length s)
 unfoldable pub partOrNone : ℕ → ℕ → List ℕ → List ℕ
 partOrNone f t s = cond (isWithin f t s) (part f t s) []
 
--- a place of s at which v stands
-pub record Has (v : ℕ) (s : List ℕ) : Type 0 where
-  pub place : ℕ
-  pub inside : place < length s
-  pub stands : getD s place 0 ≡ v
+-- v stands at a place of s
+abbrev pub Has : ℕ → List ℕ → Type 0
+Has v s = Any (holdsAt (is v) s) 0 (length s)

@@ -6,14 +6,17 @@ use native.Mathlib.Omega.{arith}
 use native.Mathlib.Nat.{add-zero}
 use lib.ListN.{length, getD, take, drop}
 use lib.Seq.{drop-cons}
+use lib.Dec.{leb}
+use borrow.Author.Tests.{leb-true, le-leb, leb-false, lt-leb, lt-ltb}
 use Rattle.theory_lists.specs.Bounds.{AllBelow}
-use Rattle.theory_lists.proofs.Below.{below-in-part}
-use Rattle.theory_lists.specs.Part.{part}
+use Rattle.theory_lists.specs.Search.{Until, holdsAt}
+use Rattle.theory_lists.specs.Part.{part, Within}
+use Rattle.theory_lists.proofs.Below.{below-in-part, all-is-below}
 use Rattle.theory_text.specs.Scalar.{Scalar, form}
 use Rattle.theory_text.specs.Text.{Scalars, encode, Valid}
 use Rattle.theory_text.specs.Table.{first}
 use Rattle.theory_text.specs.Reading.{scalars, rest}
-use Rattle.theory_text.specs.Ascii.{Ascii}
+use Rattle.theory_text.specs.Ascii.{Ascii, AsciiRun}
 use Rattle.theory_text.proofs.Sizes.{in-one, form-as}
 use Rattle.theory_text.proofs.Rows.{row-00}
 use Rattle.theory_text.proofs.Forms.{reads-as}
@@ -80,3 +83,23 @@ module _ (s : List ℕ) where
 
   pub valid-ascii : (at n : ℕ) → at + n ≤ length s → Ascii (part at (at + n) s) → Valid (take at s) → Valid (take (at + n) s)
   valid-ascii at n h a v = valid-each at n h (each at n h a) v
+
+  -- it ends at the first place of another byte, or at the end
+  pub run-until : (f t : ℕ) → f ≤ length s → AsciiRun s f t → Until (holdsAt (leb 0x80) s) f (length s) t
+  run-until f t h r =
+      let w : Within f t s = record { ordered = r .ordered; ends = r .inside h } in
+      record {
+        after = r .ordered;
+        before = r .inside h;
+        holds = λ l. le-leb 0x80 (getD s t 0) (r .stops l);
+        none = λ k m l. lt-leb 0x80 (getD s k 0) (below-in-part 0x80 s w (r .ascii) k m l);
+      }
+
+  pub until-run : (f t : ℕ) → Until (holdsAt (leb 0x80) s) f (length s) t → AsciiRun s f t
+  until-run f t u =
+      record {
+        ordered = u .after;
+        inside = λ h. u .before;
+        ascii = all-is-below 0x80 s f t (λ k m l. lt-ltb (getD s k 0) 0x80 (leb-false 0x80 (getD s k 0) (u .none k m l)));
+        stops = λ l. leb-true 0x80 (getD s t 0) (u .holds l);
+      }

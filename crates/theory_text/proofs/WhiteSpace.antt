@@ -10,7 +10,8 @@ use borrow.Author.Tests.{ne-eqb, eqb-true, eqb-false}
 use Rattle.theory_whole.proofs.Cases.{by-test}
 use Rattle.theory_answers.proofs.Says.{says-true, says-false}
 use Rattle.theory_lists.specs.Part.{Has}
-use Rattle.theory_lists.proofs.Listed.{listed, says-listed}
+use Rattle.theory_lists.specs.Search.{listed}
+use Rattle.theory_lists.proofs.Listed.{says-listed}
 use Rattle.theory_text.specs.WhiteSpace.{whiteSpace}
 
 -- none of the list is c

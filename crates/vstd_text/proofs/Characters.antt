@@ -9,7 +9,8 @@ use lib.ListN.{length, getD}
 use Rattle.theory_answers.specs.Says.{Says}
 use Rattle.theory_lists.specs.Part.{Has}
 use Rattle.theory_lists.proofs.Below.{all-below, below-at, below-append, below-parts}
-use Rattle.theory_lists.proofs.Listed.{listed, says-listed}
+use Rattle.theory_lists.specs.Search.{listed}
+use Rattle.theory_lists.proofs.Listed.{says-listed}
 use Rattle.theory_text.specs.WhiteSpace.{whiteSpace}
 use Rattle.theory_text.specs.Ascii.{Ascii}
 use Rattle.theory_text.proofs.Ascii.{ascii-scalars, ascii-encode}

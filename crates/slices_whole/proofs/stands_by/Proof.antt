@@ -1,40 +1,46 @@
 use borrow.Author.Needs.{needs}
 use native.Mathlib.Omega.{arith}
 use Prim.Native.Nat.{_-_, _+_, _≤_}
-use lib.ListN.{length, take}
-use Rattle.theory_lists.specs.Part.{Has}
+use mathlib.Core.Bool.{false}
+use lib.ListN.{length}
+use Rattle.theory_lists.specs.Search.{None, holdsAt, is}
 use Rattle.theory_answers.proofs.Says.{says-true, says-false}
-use Rattle.theory_lists.proofs.Tests.{has-in-part, not-in-block, not-in-less, has-rest}
+use Rattle.theory_lists.proofs.Search.{each-join, any-more, not-any-is-none, says-any-part, says-any-rest}
+use Rattle.theory_lists.specs.Part.{Within}
 use Rattle.slices_whole.proofs.stands_by.Statement.{statement}
 use Rattle.slices_whole.proofs.stands_by.Tie as tie
 
 abbrev Inv-loop : tie.InvT-loop
-Inv-loop s v size last i₀ i = (i ≤ length s) × (Has v (take i s) → ⊥)
+Inv-loop s v size last i₀ i = (i ≤ length s) × None (holdsAt (is v) s) 0 i
 
 abbrev μ-loop : tie.MeasureT-loop
 μ-loop s v size last i₀ i = length s - i
 
 loop-holds : tie.Need-loop-holds Inv-loop μ-loop
-loop-holds c = (omega arith, λ h. omega (arith, h .inside))
+loop-holds c = (omega arith, λ k h l. absurd (omega arith))
 
 returns : tie.Need-returns Inv-loop μ-loop
 returns c =
     let l = c .before .before .before .before .loop in
     let a = c .before .before .before .before .before .before .args in
-    has-in-part _ _ (l .i) (l .i + a .size) (says-true (c .before .stands-in .ensures) (c .if1 .taken))
+    let w : Within (l .i) (l .i + a .size) (a .s .now) = search needs in
+    any-more _ 0 _ (l .i) (l .i + a .size) (omega arith) (omega arith) (says-true (says-any-part (is (a .v)) w (c .before .stands-in .result) (c .before .stands-in .ensures)) (c .if1 .taken))
 
 loop-again : tie.Need-loop-again Inv-loop μ-loop
 loop-again c =
     let l = c .before .before .before .before .loop in
     let a = c .before .before .before .before .before .before .args in
-    (omega arith, not-in-block _ _ (l .i) (l .i + a .size) (omega arith) (omega arith) (l .inv .1) (says-false (c .before .stands-in .ensures) (c .if1 .left)))
+    let w : Within (l .i) (l .i + a .size) (a .s .now) = search needs in
+    let block = says-false (says-any-part (is (a .v)) w (c .before .stands-in .result) (c .before .stands-in .ensures)) (c .if1 .left) in
+    (omega arith, each-join false _ 0 (l .i) (l .i + a .size) (l .inv .1) (not-any-is-none _ (l .i) (l .i + a .size) block))
 
 returns-2 : tie.Need-returns-2 Inv-loop μ-loop
 returns-2 c =
     let l = c .before .before .before .loop in
     let a = c .before .before .before .before .before .args in
     let last = length (a .s .now) - a .size in
-    has-rest _ _ (c .stands-in2 .result) last (omega arith) (not-in-less _ _ (l .i) last (omega arith) (l .inv .1)) (c .stands-in2 .ensures)
+    let w : Within last (length (a .s .now)) (a .s .now) = search needs in
+    says-any-rest _ (c .stands-in2 .result) 0 (l .i) last _ (omega arith) (omega arith) (l .inv .1) (says-any-part (is (a .v)) w (c .stands-in2 .result) (c .stands-in2 .ensures))
 
 pub stands-by-spec : {M : Type 1} → statement M
 stands-by-spec =

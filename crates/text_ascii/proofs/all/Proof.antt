@@ -1,33 +1,35 @@
 use borrow.Author.Needs.{needs}
 use native.Mathlib.Omega.{arith}
 use Prim.Native.Nat.{_-_, _≤_}
-use lib.ListN.{length, take}
+use mathlib.Core.Path.{_≡_}
+use lib.ListN.{length}
 use Rattle.theory_answers.specs.Says.{Says}
-use Rattle.theory_text.specs.Ascii.{Ascii}
-use Rattle.theory_lists.specs.Bounds.{AllBelow}
-use Rattle.theory_lists.proofs.Below.{says-below-next, says-below-whole}
+use Rattle.theory_lists.specs.Search.{All, holdsAt, below}
+use Rattle.theory_lists.proofs.Search.{says-all-next}
+use Rattle.theory_lists.proofs.Below.{says-below}
 use Rattle.text_ascii.proofs.all.Statement.{statement}
 use Rattle.text_ascii.proofs.all.Tie as tie
 
 abbrev Inv-loop : tie.InvT-loop
-Inv-loop s all₀ i₀ all i = (i ≤ length s) × Says all (Ascii (take i s))
+Inv-loop s all₀ i₀ all i = (i ≤ length s) × Says all (All (holdsAt (below 0x80) s) 0 i)
 
 abbrev μ-loop : tie.MeasureT-loop
 μ-loop s all₀ i₀ all i = length s - i
 
 loop-holds : tie.Need-loop-holds Inv-loop μ-loop
-unfolding AllBelow
-loop-holds c = (omega arith, tt)
+loop-holds c = (omega arith, λ k h l. absurd (omega arith))
 
 loop-again : tie.Need-loop-again Inv-loop μ-loop
 loop-again c =
     let l = c .before .before .loop in
-    (omega arith, says-below-next 0x80 (c .before .before .before .args .s .now) (l .all) (l .i) (omega arith) (l .inv .1))
+    (omega arith, says-all-next _ (l .all) 0 (l .i) (omega arith) (l .inv .1))
 
 returns : tie.Need-returns Inv-loop μ-loop
 returns c =
     let l = c .before .loop in
-    says-below-whole 0x80 (c .before .before .args .s .now) (l .all) (l .i) (omega arith) (l .inv .1)
+    let s = c .before .before .args .s .now in
+    let e : l .i ≡ length s = omega arith in
+    says-below 0x80 s (l .all) (rw e at (l .inv .1))
 
 pub all-spec : {M : Type 1} → statement M
 all-spec =

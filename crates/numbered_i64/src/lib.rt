@@ -1,0 +1,113 @@
+// The operations of i64 on numbers alone by their numbers (crate `numbered`), as the faces export them (written by generate/ from the table of operations).
+use numbered::Answer;
+use numbered::Numbers;
+use signed64_sums as own;
+use unsigned64_sums as other;
+
+// Arguments are cut down to their kind's width.
+pub fn run(operation: u8, n: Numbers) -> Answer {
+    handed(operation, n.first, n.second)
+}
+
+fn handed(operation: u8, first: u64, second: u64) -> Answer {
+    let a_i64 = own::wrapped(first);
+    let b_i64 = own::wrapped(second);
+    let b_u64 = second;
+    let b_u32 = numbered::low32(second);
+    match numbered::form(operation) {
+        numbered::NUMBER_OF_NUMBER_OTHER => {
+            as_number(promisebook_i64::pb_i64_wrapping_add_unsigned(a_i64, b_u64))
+        }
+        numbered::NUMBER_OF_NUMBER_U32 => number_of_number_u32(operation, a_i64, b_u32),
+        numbered::CHECKED_OF_NUMBER_OTHER => checked_of_number_other(operation, a_i64, b_u64),
+        numbered::NUMBER_OF_NUMBER => as_number(promisebook_i64::pb_i64_clone(a_i64)),
+        _ => of_common(operation, a_i64, b_i64),
+    }
+}
+
+// Those that take what most of them take.
+fn of_common(operation: u8, a_i64: i64, b_i64: i64) -> Answer {
+    match numbered::form(operation) {
+        numbered::NUMBER_OF_NUMBER_NUMBER => number_of_number_number(operation, a_i64, b_i64),
+        numbered::CHECKED_OF_NUMBER_NUMBER => checked_of_number_number(operation, a_i64, b_i64),
+        numbered::TEST_OF_NUMBER_NUMBER => test_of_number_number(operation, a_i64, b_i64),
+        numbered::ORDER_OF_NUMBER_NUMBER => as_order(promisebook_i64::pb_i64_cmp(a_i64, b_i64)),
+        numbered::PARTIAL_ORDERING_OF_NUMBER_NUMBER => {
+            as_partial_ordering(promisebook_i64::pb_i64_partial_cmp(a_i64, b_i64))
+        }
+        _ => numbered::refused(),
+    }
+}
+
+fn number_of_number_number(operation: u8, x: i64, y: i64) -> Answer {
+    match operation {
+        numbered::WRAPPING_ADD => as_number(promisebook_i64::pb_i64_wrapping_add(x, y)),
+        numbered::WRAPPING_SUB => as_number(promisebook_i64::pb_i64_wrapping_sub(x, y)),
+        _ => as_number(promisebook_i64::pb_i64_wrapping_mul(x, y)),
+    }
+}
+
+fn number_of_number_u32(operation: u8, x: i64, rhs: u32) -> Answer {
+    match operation {
+        numbered::WRAPPING_SHL => as_number(promisebook_i64::pb_i64_wrapping_shl(x, rhs)),
+        _ => as_number(promisebook_i64::pb_i64_wrapping_shr(x, rhs)),
+    }
+}
+
+fn checked_of_number_number(operation: u8, x: i64, y: i64) -> Answer {
+    match operation {
+        numbered::CHECKED_ADD => as_checked(promisebook_i64::pb_i64_checked_add(x, y)),
+        numbered::CHECKED_SUB => as_checked(promisebook_i64::pb_i64_checked_sub(x, y)),
+        numbered::CHECKED_MUL => as_checked(promisebook_i64::pb_i64_checked_mul(x, y)),
+        numbered::CHECKED_DIV => as_checked(promisebook_i64::pb_i64_checked_div(x, y)),
+        numbered::CHECKED_DIV_EUCLID => {
+            as_checked(promisebook_i64::pb_i64_checked_div_euclid(x, y))
+        }
+        numbered::CHECKED_REM => as_checked(promisebook_i64::pb_i64_checked_rem(x, y)),
+        _ => as_checked(promisebook_i64::pb_i64_checked_rem_euclid(x, y)),
+    }
+}
+
+fn checked_of_number_other(operation: u8, x: i64, y: u64) -> Answer {
+    match operation {
+        numbered::CHECKED_ADD_UNSIGNED => {
+            as_checked(promisebook_i64::pb_i64_checked_add_unsigned(x, y))
+        }
+        _ => as_checked(promisebook_i64::pb_i64_checked_sub_unsigned(x, y)),
+    }
+}
+
+fn test_of_number_number(operation: u8, x: i64, y: i64) -> Answer {
+    match operation {
+        numbered::EQ => as_test(promisebook_i64::pb_i64_eq(x, y)),
+        numbered::NE => as_test(promisebook_i64::pb_i64_ne(x, y)),
+        numbered::LT => as_test(promisebook_i64::pb_i64_lt(x, y)),
+        numbered::LE => as_test(promisebook_i64::pb_i64_le(x, y)),
+        numbered::GT => as_test(promisebook_i64::pb_i64_gt(x, y)),
+        _ => as_test(promisebook_i64::pb_i64_ge(x, y)),
+    }
+}
+
+fn as_number(r: i64) -> Answer {
+    numbered::found(other::wrapped(r) as u64)
+}
+
+fn as_checked(r: signed64_sums::Checked) -> Answer {
+    numbered::parts(r.ok, other::wrapped(r.value) as u64, 0, 0)
+}
+
+fn as_test(r: bool) -> Answer {
+    numbered::found(numbered::bit(r))
+}
+
+fn as_order(r: i8) -> Answer {
+    numbered::order(r)
+}
+
+fn as_partial_ordering(r: ordering::PartialOrdering) -> Answer {
+    if r.ok {
+        numbered::order(r.value)
+    } else {
+        numbered::refused()
+    }
+}

@@ -1,0 +1,125 @@
+// The operations of u32 on numbers alone by their numbers (crate `numbered`), as the faces export them (written by generate/ from the table of operations).
+use numbered::Answer;
+use numbered::Numbers;
+use signed32_sums as other;
+
+// Arguments are cut down to their kind's width.
+pub fn run(operation: u8, n: Numbers) -> Answer {
+    handed(operation, n.first, n.second)
+}
+
+fn handed(operation: u8, first: u64, second: u64) -> Answer {
+    let a_u32 = numbered::low32(first);
+    let b_u32 = numbered::low32(second);
+    let b_i32 = other::wrapped(numbered::low32(second));
+    match numbered::form(operation) {
+        numbered::NUMBER_OF_NUMBER_OTHER => {
+            as_number(promisebook_u32::pb_u32_wrapping_add_signed(a_u32, b_i32))
+        }
+        numbered::CHECKED_OF_NUMBER_OTHER => {
+            as_checked(promisebook_u32::pb_u32_checked_add_signed(a_u32, b_i32))
+        }
+        numbered::NUMBER_OF_NUMBER => as_number(promisebook_u32::pb_u32_clone(a_u32)),
+        numbered::U32_OF_NUMBER => u32_of_number(operation, a_u32),
+        _ => of_common(operation, a_u32, b_u32),
+    }
+}
+
+// Those that take what most of them take.
+fn of_common(operation: u8, a_u32: u32, b_u32: u32) -> Answer {
+    match numbered::form(operation) {
+        numbered::NUMBER_OF_NUMBER_NUMBER => number_of_number_number(operation, a_u32, b_u32),
+        numbered::NUMBER_OF_NUMBER_U32 => number_of_number_u32(operation, a_u32, b_u32),
+        numbered::CHECKED_OF_NUMBER_NUMBER => checked_of_number_number(operation, a_u32, b_u32),
+        numbered::TEST_OF_NUMBER_NUMBER => test_of_number_number(operation, a_u32, b_u32),
+        numbered::ORDER_OF_NUMBER_NUMBER => as_order(promisebook_u32::pb_u32_cmp(a_u32, b_u32)),
+        numbered::PARTIAL_ORDERING_OF_NUMBER_NUMBER => {
+            as_partial_ordering(promisebook_u32::pb_u32_partial_cmp(a_u32, b_u32))
+        }
+        _ => numbered::refused(),
+    }
+}
+
+fn number_of_number_number(operation: u8, x: u32, y: u32) -> Answer {
+    match operation {
+        numbered::WRAPPING_ADD => as_number(promisebook_u32::pb_u32_wrapping_add(x, y)),
+        numbered::WRAPPING_SUB => as_number(promisebook_u32::pb_u32_wrapping_sub(x, y)),
+        numbered::WRAPPING_MUL => as_number(promisebook_u32::pb_u32_wrapping_mul(x, y)),
+        numbered::SATURATING_ADD => as_number(promisebook_u32::pb_u32_saturating_add(x, y)),
+        numbered::SATURATING_SUB => as_number(promisebook_u32::pb_u32_saturating_sub(x, y)),
+        _ => as_number(promisebook_u32::pb_u32_saturating_mul(x, y)),
+    }
+}
+
+fn number_of_number_u32(operation: u8, x: u32, rhs: u32) -> Answer {
+    match operation {
+        numbered::WRAPPING_SHL => as_number(promisebook_u32::pb_u32_wrapping_shl(x, rhs)),
+        _ => as_number(promisebook_u32::pb_u32_wrapping_shr(x, rhs)),
+    }
+}
+
+fn checked_of_number_number(operation: u8, x: u32, y: u32) -> Answer {
+    match operation {
+        numbered::CHECKED_ADD => as_checked(promisebook_u32::pb_u32_checked_add(x, y)),
+        numbered::CHECKED_SUB => as_checked(promisebook_u32::pb_u32_checked_sub(x, y)),
+        numbered::CHECKED_MUL => as_checked(promisebook_u32::pb_u32_checked_mul(x, y)),
+        numbered::CHECKED_NEXT_MULTIPLE_OF => {
+            as_checked(promisebook_u32::pb_u32_checked_next_multiple_of(x, y))
+        }
+        numbered::CHECKED_DIV => as_checked(promisebook_u32::pb_u32_checked_div(x, y)),
+        numbered::CHECKED_DIV_EUCLID => {
+            as_checked(promisebook_u32::pb_u32_checked_div_euclid(x, y))
+        }
+        numbered::CHECKED_REM => as_checked(promisebook_u32::pb_u32_checked_rem(x, y)),
+        _ => as_checked(promisebook_u32::pb_u32_checked_rem_euclid(x, y)),
+    }
+}
+
+fn test_of_number_number(operation: u8, x: u32, y: u32) -> Answer {
+    match operation {
+        numbered::IS_MULTIPLE_OF => as_test(promisebook_u32::pb_u32_is_multiple_of(x, y)),
+        numbered::EQ => as_test(promisebook_u32::pb_u32_eq(x, y)),
+        numbered::NE => as_test(promisebook_u32::pb_u32_ne(x, y)),
+        numbered::LT => as_test(promisebook_u32::pb_u32_lt(x, y)),
+        numbered::LE => as_test(promisebook_u32::pb_u32_le(x, y)),
+        numbered::GT => as_test(promisebook_u32::pb_u32_gt(x, y)),
+        _ => as_test(promisebook_u32::pb_u32_ge(x, y)),
+    }
+}
+
+fn u32_of_number(operation: u8, i: u32) -> Answer {
+    match operation {
+        numbered::LEADING_ZEROS => as_u32(promisebook_zeros::pb_u32_leading_zeros(i)),
+        numbered::LEADING_ONES => as_u32(promisebook_zeros::pb_u32_leading_ones(i)),
+        numbered::TRAILING_ZEROS => as_u32(promisebook_zeros::pb_u32_trailing_zeros(i)),
+        _ => as_u32(promisebook_zeros::pb_u32_trailing_ones(i)),
+    }
+}
+
+fn as_number(r: u32) -> Answer {
+    numbered::found(r as u64)
+}
+
+fn as_checked(r: unsigned32_sums::Checked) -> Answer {
+    numbered::parts(r.ok, r.value as u64, 0, 0)
+}
+
+fn as_test(r: bool) -> Answer {
+    numbered::found(numbered::bit(r))
+}
+
+fn as_order(r: i8) -> Answer {
+    numbered::order(r)
+}
+
+fn as_partial_ordering(r: ordering::PartialOrdering) -> Answer {
+    if r.ok {
+        numbered::order(r.value)
+    } else {
+        numbered::refused()
+    }
+}
+
+fn as_u32(r: u32) -> Answer {
+    numbered::found(r as u64)
+}
