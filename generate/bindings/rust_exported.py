@@ -1,5 +1,5 @@
 """bindings/rust/src/exported.rs: the declarations, in the only module of the crate that is not safe."""
-from bindings.rust_answers import is_struct, parameters
+from bindings.rust_answers import is_struct
 from declared import SLICE
 from templates import filled_file
 
@@ -31,7 +31,8 @@ def safe_call(export):
     for name, written in export.parameters:
         match = SLICE.fullmatch(written)
         values += ["%s.as_%sptr()" % (name, "mut_" if match.group(1) else ""), name + ".len()"] if match else [name]
-    head = "pub fn %s_%s(%s) -> %s {" % (export.group, export.name, parameters(export), declared_answer(export))
+    parameters = ", ".join("%s: %s" % pair for pair in export.parameters)
+    head = "pub fn %s_%s(%s) -> %s {" % (export.group, export.name, parameters, declared_answer(export))
     return "#[inline]\n%s\n    unsafe { %s(%s) }\n}\n" % (head, export.symbol, ", ".join(values))
 
 
