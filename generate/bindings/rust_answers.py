@@ -1,6 +1,6 @@
 """What the crate's functions answer: the type in Rust, the value by the independent meaning, and how a value is written.
 
-A value is None of what is refused, Refusal where a reason is answered, bytes of a part of a slice and of an array, a pair in Places of a range, a tuple of several."""
+A value is None of what is refused, and Refusal where a reason is answered; bytes of a part of a slice and of an array, Places of a range; a tuple of several."""
 import re
 from dataclasses import dataclass
 from typing import Callable, NamedTuple
@@ -119,8 +119,11 @@ def of_places(function, around):
                 made.append(both if on_part else s[both.start:both.end])
         return tuple(made)
 
+    def item_literal(item):
+        return range_literal(item) if isinstance(item, Places) else part_literal(item, function.export) if isinstance(item, bytes) else str(item)
+
     def written(values):
-        return together([range_literal(item) if isinstance(item, Places) else part_literal(item, function.export) if isinstance(item, bytes) else str(item) for item in values])
+        return together([item_literal(item) for item in values])
 
     return Answer(together(types), around, written, value)
 

@@ -46,14 +46,15 @@ def structs(group, found):
 def uses(found):
     types = " ".join(text for function in found for text in [function.answer.type, *(kind for _, kind in function.parameters)])
     yield "crate::exported"
-    yield from ["crate::ordering", "core::cmp::Ordering"] * ("Ordering" in types)
+    yield from ["crate::ordering"] * ("Ordering" in types)
     yield from ["crate::{not_decimal, NotDecimal}"] * ("NotDecimal" in types)
+    yield from ["core::cmp::Ordering"] * ("Ordering" in types)
     yield from ["core::ops::Range"] * ("Range<" in types)
 
 
 def module_file(group, found):
     by_hand = [read(os.path.join(TEMPLATES, BY_HAND[group]))] if group in BY_HAND else []
-    head = "//! %s\n\n%s" % (about(group, "module"), "".join("use %s;\n" % name for name in sorted(uses(found), key=lambda name: (not name.startswith("crate"), name))))
+    head = "//! %s\n\n%s" % (about(group, "module"), "".join("use %s;\n" % name for name in uses(found)))
     return "\n".join([head, *structs(group, found), *map(function_text, found), *by_hand])
 
 

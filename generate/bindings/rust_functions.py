@@ -151,7 +151,8 @@ class Function:
         return [case for case in worked if not self.casts or case[1] is not None or case in (refused[0], refused[-1])]
 
     def as_taken(self, arguments):
-        """A case of the export's as this function has it: where it takes no part, the part alone; none where there is no part."""
+        """A case of the export's as this function has it: where it takes no part, the part alone; none where there is no part. A signed number has its complement
+        as a second case, which is negative where the first is not."""
         given = dict(zip((name for name, _ in self.export.parameters), arguments, strict=True))
         s = bytes(given[self.slice[0]])
         ends = (given["from"], given["to"]) if self.has_ends else (given[self.says("begins")], len(s)) if self.says("begins") else (0, len(s))
@@ -164,8 +165,8 @@ class Function:
         given.update({self.slice[0]: s, "part": ends})
         yield tuple(given[name] for name, _ in self.parameters)
         if self.casts:
-            given.update({name: ~value if isinstance(value, int) else value for name, value in given.items() if dict(self.parameters).get(name) == self.kind.name})
-            given[self.slice[0]] = given[self.slice[0]] if self.is_lent else bytes(255 - byte for byte in s)
+            given.update({name: ~given[name] for name, kind in self.parameters if kind == self.kind.name})
+            given[self.slice[0]] = s if self.is_lent else bytes(255 - byte for byte in s)
             yield tuple(given[name] for name, _ in self.parameters)
 
     def as_parts(self, listed):
