@@ -7,7 +7,7 @@ import faces
 import forms
 import numbering
 import table
-from bindings import rust_functions
+from bindings import rust_functions, verus
 
 DAMAGES = [
     # file, what stands there, what is put in its place, what the error must say
@@ -36,6 +36,7 @@ DAMAGES = [
     ("slices.txt", "places: first, from..to\n", "places: first, from..middle\n", "split_first: `places` names middle"),
     ("slices.txt", "range: a e\n", "range: a b\n", "sub_range: `range` names b"),
     ("text.txt", "begins: at\n", "begins: place\n", "write: `begins` names place"),
+    ("slices.txt", "verus: S.contains(v)\n", "", "contains: it lacks what the Rust crate's function promises in Verus' terms"),
 ]
 
 
@@ -49,7 +50,7 @@ def said(texts):
     clear()
     table.TEXTS = texts
     try:
-        for made in (faces.files(), ask_lines.files(), counts.files(), rust_functions.sentences(declared.exports())):
+        for made in (faces.files(), ask_lines.files(), counts.files(), rust_functions.sentences(declared.exports()), verus.specifications(declared.exports())):
             list(made)
         forms.forms()
         return "\n".join(complete.faults())

@@ -17,6 +17,7 @@ OF_FAMILY = re.compile(
 OF_OPERATION = [
     "name", "of", "heading", "note", "takes", "gives", "home", "body", "contract", "proof", "sentence", "vstd", "cases", "characters", "shown", "asked", "given",
     "said", "answer", "also asked", "rust", "whole", "part", "always", "places", "range", "begins", "array", "error", "signed",
+    "when", "when of S", "verus", "verus of S", "leaves", "besides",
 ]
 # What every operation has, of its own or from its family; `body` may stand for `home`.
 NEEDED = {

@@ -1,7 +1,8 @@
-"""What other people's programs link the library with: bindings/c/promisebook.h with a program that tries it, and the sources of the crate in bindings/rust, for every export of the table."""
+"""What other people's programs link the library with: bindings/c/promisebook.h with a program that tries it, the sources of the crate in bindings/rust, and
+what Verus is to believe of it in bindings/verus, for every export of the table."""
 import os
 
-from bindings import c_examples, c_header, rust_crate
+from bindings import c_examples, c_header, rust_crate, verus
 from declared import exports, grouped
 from templates import CRATES
 
@@ -15,3 +16,4 @@ def files():
     yield os.path.join(FOLDER, "c", "promisebook.h"), c_header.header(found)
     yield os.path.join(FOLDER, "c", "every_promise.c"), c_examples.program(found)
     yield from rust_crate.files(found, WHOLE[0])
+    yield from verus.files(found, os.path.join(FOLDER, "verus"))

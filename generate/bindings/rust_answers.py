@@ -1,6 +1,7 @@
 """What the crate's functions answer: the type in Rust, the value by the independent meaning, and how a value is written.
 
-A value is None of what is refused, and Refusal where a reason is answered; bytes of a part of a slice and of an array, Places of a range; a tuple of several."""
+A value is None of what is refused, and Refusal where a reason is answered; bytes of a part of a slice and of an array, Places of a range; a tuple of several
+and of places."""
 import re
 from dataclasses import dataclass
 from typing import Callable, NamedTuple

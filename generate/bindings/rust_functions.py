@@ -115,23 +115,30 @@ class Function:
 
     # ---- what it means: the independent meaning of the export, at the arguments of this function
 
-    def worked(self, arguments):
-        """What it answers to these arguments, and what a lent slice holds afterwards, by the parameter's name."""
-        given = dict(zip((name for name, _ in self.parameters), arguments, strict=True))
+    def meant(self):
+        """A function of the arguments: what it answers, and what a lent slice holds afterwards, by the parameter's name."""
+        answered, kind = meaning(self.export), self.kind
         if self.form == NUMBERS:
-            return meaning(self.export)(self.kind, *arguments), {}
-        s = bytearray(self.array) if self.array and self.form == WHOLE else bytearray(given[self.slice[0]])
-        start, end = given.get("part", (0, len(s)))
-        if not start <= end <= len(s):
-            return None, {self.slice[0]: bytes(s)} if self.is_lent else {}
-        part = s[start:end]
-        passed = {**given, self.slice[0]: part if self.is_lent else bytes(part), self.says("begins"): 0}
-        passed.update(zip(ENDS, (0, len(part))))
-        passed.update(zip(self.range, given.get("range", ())))
-        found = meaning(self.export)(self.kind, *(passed[name] for name, _ in self.export.parameters))
-        s[start:end] = part
-        left = {self.slice[0]: bytes(s)} if self.is_lent and self.slice[0] in given else {}
-        return self.answer.value(found, bytes(s), start, end), left
+            return lambda *arguments: (answered(kind, *arguments), {})
+        names, passed_on = [name for name, _ in self.parameters], [name for name, _ in self.export.parameters]
+        s_name, is_lent, begins, both, value = self.slice[0], self.is_lent, self.says("begins"), self.range, self.answer.value
+        is_array = self.array if self.form == WHOLE else None
+
+        def worked(*arguments):
+            given = dict(zip(names, arguments, strict=True))
+            s = bytearray(is_array or given[s_name])
+            start, end = given.get("part", (0, len(s)))
+            if not start <= end <= len(s):
+                return None, {s_name: bytes(s)} if is_lent else {}
+            part = s[start:end]
+            passed = {**given, s_name: part if is_lent else bytes(part), begins: 0}
+            passed.update(zip(ENDS, (0, len(part))))
+            passed.update(zip(both, given.get("range", ())))
+            found = answered(kind, *(passed[name] for name in passed_on))
+            s[start:end] = part
+            return value(found, bytes(s), start, end), {s_name: bytes(s)} if is_lent and not is_array else {}
+
+        return worked
 
     def refusal(self, part):
         """The reason of a refusal."""
@@ -146,13 +153,14 @@ class Function:
         listed = list(self.as_parts(listed)) if self.form == PART and not self.has_ends and not self.says("begins") else listed
         if self.form == PART and self.export.characters:
             listed = [case for case in listed if case[1] != (0, len(case[0]))]
-        worked = [(case, *self.worked(case)) for case in dict.fromkeys(listed)]
+        meant = self.meant()
+        worked = [(case, *meant(*case)) for case in dict.fromkeys(listed)]
         refused = [case for case in worked if case[1] is None]
         return [case for case in worked if not self.casts or case[1] is not None or case in (refused[0], refused[-1])]
 
     def as_taken(self, arguments):
-        """A case of the export's as this function has it: where it takes no part, the part alone; none where there is no part. A signed number has its complement
-        as a second case, which is negative where the first is not."""
+        """A case of the export's as this function has it: where it takes no part, the part alone; none where there is no part. A signed number has its
+        complement as a second case, which is negative where the first is not."""
         given = dict(zip((name for name, _ in self.export.parameters), arguments, strict=True))
         s = bytes(given[self.slice[0]])
         ends = (given["from"], given["to"]) if self.has_ends else (given[self.says("begins")], len(s)) if self.says("begins") else (0, len(s))

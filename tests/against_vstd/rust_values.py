@@ -13,8 +13,10 @@ REMEMBERED = 1 << 16
 class Library:
     """All items of vstd's files. `texts` has each file's text under its name."""
 
+    clause, read = Clause, staticmethod(items_of)  # how a clause becomes Python, and a text its items
+
     def __init__(self, texts):
-        self.items = [item for file, text in texts.items() for item in items_of(file, text)]
+        self.items = [item for file, text in texts.items() for item in self.read(file, text)]
         self.functions, self.keyed = {}, {}
         for place, item in enumerate(self.items):
             item.place = place
@@ -41,7 +43,7 @@ class Library:
         return "f%d_%s" % (item.place, item.name)
 
     def define(self, item):
-        clause, lines = Clause(self, item), []
+        clause, lines = self.clause(self, item), []
         if item.when:
             lines.append("    if not %s: raise LeftOpen('outside of its when')" % clause.truth(item.when))
         body = item.body
