@@ -89,5 +89,10 @@ def parted(function, item):
     if function.form == WHOLE:
         return "%s.get(%s..%s)?" % (function.slice[0], start if start != "0" else "", end or "")
     if not function.has_ends:
-        start, end = ("part.start" + " + %s" % place * (place != "0") for place in (start, end))
+        start, end = (counted(place) for place in (start, end))
     return "%s..%s" % (start, end or "part.end")
+
+
+def counted(place):
+    """A place of the part, counted from the start of the slice: the proved sum, which cannot panic."""
+    return "part.start" if place == "0" else place and "usizes::wrapping_add(part.start, %s)" % place

@@ -47,6 +47,7 @@ def uses(found):
     types = " ".join(text for function in found for text in [function.answer.type, *(kind for _, kind in function.parameters)])
     yield "crate::exported"
     yield from ["crate::ordering"] * ("Ordering" in types)
+    yield from ["crate::usizes"] * any("usizes::" in line for function in found for line in body(function))
     yield from ["crate::{not_decimal, NotDecimal}"] * ("NotDecimal" in types)
     yield from ["core::cmp::Ordering"] * ("Ordering" in types)
     yield from ["core::ops::Range"] * ("Range<" in types)

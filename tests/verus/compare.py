@@ -3,7 +3,8 @@
 
     python3 tests/verus/compare.py              the test that the gate runs
     python3 tests/verus/compare.py --record     and write verdict.txt anew
-    python3 tests/verus/compare.py --rust       only print a Rust program that compiles where every function has the type that its specification says
+    python3 tests/verus/compare.py --rust       only print a Rust program that compiles where every function has the type that its specification says, and
+                                                links where none can panic
 
 Every public function of the crate has one specification and no other has; each names an item that the table of promises has, or says `beyond vstd`; and each
 clause, evaluated with vstd's own definitions, holds of the right answer (generate/meanings) and of no wrong one that is tried; so does vstd's own promise about
@@ -211,16 +212,46 @@ def whole(text):
     return len(listed)
 
 
+RUST_HEAD = """//! Compiles where every function of the crate has the type that its specification for Verus says, and links where none of them can panic.
+#![no_std]
+#![no_main]
+#![allow(unused_imports)]
+use core::cmp::Ordering;
+use core::hint::black_box;
+use core::ops::Range;
+use core::panic::PanicInfo;
+use promisebook::text::Read;
+use promisebook::NotDecimal;
+
+#[link(name = "c")]
+unsafe extern "C" {
+    // Stands in no library: the linker misses it where a panic can be reached.
+    fn a_function_of_the_crate_can_panic() -> !;
+}
+
+#[panic_handler]
+fn panic(_: &PanicInfo) -> ! {
+    unsafe { a_function_of_the_crate_can_panic() }
+}
+
+#[unsafe(no_mangle)]
+extern "C" fn rust_eh_personality() {}
+
+// The specifications are tokens of Rust.
+macro_rules! verus {
+    ($($token:tt)*) => {};
+}
+"""
+
+
 def rust_program(text):
-    """Constants whose types are the specifications' and whose values are the crate's functions; and the file itself in a macro that drops it, which shows that
-    its tokens are Rust's."""
-    yield "//! Every function of the crate has the type that its specification for Verus says."
-    yield "#![allow(unused_imports)]\nuse core::cmp::Ordering;\nuse core::ops::Range;\nuse promisebook::text::Read;\nuse promisebook::NotDecimal;\n"
-    for _, module, name, parameters, result in signatures(text):
-        yield "const _: fn(%s)%s = promisebook::%s::%s;" % (", ".join(kind for _, kind in parameters), " -> " + result if result else "", module, name)
-    yield "\nmacro_rules! verus {\n    ($($token:tt)*) => {};\n}\n"
+    yield RUST_HEAD
     yield text[text.index("verus! {"):]
-    yield "fn main() {}"
+    yield '#[unsafe(no_mangle)]\nextern "C" fn main() -> i32 {'
+    for _, module, name, parameters, result in signatures(text):
+        kind = "fn(%s)%s" % (", ".join(kind for _, kind in parameters), " -> " + result if result else "")
+        yield "    black_box::<%s>(promisebook::%s::%s);" % (kind, module, name)
+    yield "    0\n}"
 
 
 # ---- damages, each of which must be found

@@ -21,7 +21,7 @@
 //!   on. On a whole slice it answers parts as slices, `Some((&s[..2], &s[2..]))`; on a part it
 //!   answers their places as ranges, counted from the start of `s`.
 //! - Every function answers for all arguments, and none panics. "Refused" in a promise means
-//!   `None`, or an [`NotDecimal`] where the reason is told. A function that writes answers
+//!   `None`, or a [`NotDecimal`] where the reason is told. A function that writes answers
 //!   `Some(())`, or how many bytes it has written, and where it refuses it has written nothing.
 //!
 //! # What is proved, and what is not

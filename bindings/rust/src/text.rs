@@ -1,6 +1,7 @@
 //! Text: bytes that are valid UTF-8 or not, and scalar values, the numbers up to 0x10ffff without 0xd800 to 0xdfff.
 
 use crate::exported;
+use crate::usizes;
 use core::ops::Range;
 
 /// A scalar value, and the length of its form.
@@ -257,7 +258,7 @@ pub fn is_boundary_in(s: &[u8], part: Range<usize>, at: usize) -> Option<bool> {
 #[must_use]
 pub fn split_at(s: &[u8], at: usize) -> Option<(&[u8], &[u8])> {
     let answer = exported::text_split_at(s, at);
-    answer.ok.then_some((s.get(..answer.middle)?, s.get(answer.middle..answer.end)?))
+    answer.ok.then_some((s.get(..answer.middle)?, s.get(answer.middle..)?))
 }
 
 /// Splits the part at the place `at`, counted from its start, into two texts. Refused where it is not valid UTF-8
@@ -275,7 +276,7 @@ pub fn split_at(s: &[u8], at: usize) -> Option<(&[u8], &[u8])> {
 #[must_use]
 pub fn split_at_in(s: &[u8], part: Range<usize>, at: usize) -> Option<(Range<usize>, Range<usize>)> {
     let answer = exported::text_split_at(s.get(part.clone())?, at);
-    answer.ok.then_some((part.start..part.start + answer.middle, part.start + answer.middle..part.start + answer.end))
+    answer.ok.then_some((part.start..usizes::wrapping_add(part.start, answer.middle), usizes::wrapping_add(part.start, answer.middle)..part.end))
 }
 
 /// Whether every byte of `s` is ASCII, at most 0x7f.
