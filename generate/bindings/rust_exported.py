@@ -1,5 +1,5 @@
 """bindings/rust/src/exported.rs: the declarations, in the only module of the crate that is not safe."""
-from bindings.rust_answers import is_struct, parameters
+from bindings.rust_answers import is_struct
 from declared import SLICE
 from kinds import BY_NAME
 from templates import filled_file
@@ -53,7 +53,8 @@ def safe_call(export):
     for name, written in export.parameters:
         match = SLICE.fullmatch(written)
         values += ["%s.as_%sptr()" % (name, "mut_" if match.group(1) else ""), name + ".len()"] if match else [name]
-    head = "#[inline]\npub fn %s_%s(%s) -> %s {\n" % (export.group, export.name, parameters(export), declared_answer(export))
+    parameters = ", ".join("%s: %s" % pair for pair in export.parameters)
+    head = "#[inline]\npub fn %s_%s(%s) -> %s {\n" % (export.group, export.name, parameters, declared_answer(export))
     if not through_memory(export):
         return "%s    unsafe { %s(%s) }\n}\n" % (head, export.symbol, ", ".join(values))
     body = "    let mut answer = MaybeUninit::uninit();\n    unsafe {\n        %s(%s);\n        answer.assume_init()\n    }\n}\n"

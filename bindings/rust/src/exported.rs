@@ -698,3 +698,14 @@ pub fn text_is_ascii(s: &[u8]) -> bool {
 pub fn text_valid_up_to(s: &[u8]) -> usize {
     unsafe { pb_text_valid_up_to(s.as_ptr(), s.len()) }
 }
+
+// The bytes are valid UTF-8, which is all that from_utf8_unchecked asks: text_valid answers true of no others, by the contract of pb_text_valid
+// (`Valid` of vstd_text: some scalar values are written as these bytes).
+#[inline]
+pub fn text_as_str(s: &[u8]) -> Option<&str> {
+    if text_valid(s) {
+        Some(unsafe { core::str::from_utf8_unchecked(s) })
+    } else {
+        None
+    }
+}
