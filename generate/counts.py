@@ -1,4 +1,5 @@
-"""The numbers in documents that the table settles: each is written where a sentence has it. The sentence stays as it is written by hand."""
+"""The numbers in documents that the table settles, and the crate's version, which is that of the file VERSION: each is written where a sentence has it. The sentence
+stays as it is written by hand."""
 import os
 import re
 
@@ -29,6 +30,7 @@ SENTENCES = [
     ("README.md", r"elements, parts, comparing, copying, reversing, pieces: (\d+)", lambda: [of("slices")]),
     ("README.md", r"counting, boundaries, white space: (\d+), and how far text is valid beyond vstd", lambda: [of("text", False)]),
     ("README.md", r"numbers to and from decimal text at every width, both signs: (\d+)", lambda: [of("decimal")]),
+    ("bindings/rust/Cargo.toml", r'(?m)^version = "(.*)"', lambda: [read(os.path.join(ROOT, "VERSION")).strip()]),
     ("docs/DECISIONS.md", r"\| public functions \| [\d,]+, of which (\d+) are exported", lambda: [len(exports())]),
 ]
 
