@@ -7,6 +7,7 @@ import faces
 import forms
 import numbering
 import table
+from bindings import rust_functions
 
 DAMAGES = [
     # file, what stands there, what is put in its place, what the error must say
@@ -30,6 +31,11 @@ DAMAGES = [
     ("slices.txt", "takes: s: &[u8], from: usize, to: usize, v: u8\n", "takes: v: u8, s: &[u8], from: usize, to: usize\n", "contains: it cannot be asked: bytes are the first"),
     ("text.txt", "said: 0 middle end\n", "said: 0 middle last\n", "split_at: `said` names last"),
     ("decimal.txt", "asked: s at x\n", "asked: s at\n", "write_decimal: x is neither asked for nor given"),
+    ("slices.txt", "whole: Whether S has no byte.\n", "", "is_empty: it lacks a sentence for the Rust crate"),
+    ("slices.txt", "whole: The byte `i` of S", "whole: The byte `j` of S", "get: its sentence for the Rust crate names j"),
+    ("slices.txt", "places: first, from..to\n", "places: first, from..middle\n", "split_first: `places` names middle"),
+    ("slices.txt", "range: a e\n", "range: a b\n", "sub_range: `range` names b"),
+    ("text.txt", "begins: at\n", "begins: place\n", "write: `begins` names place"),
 ]
 
 
@@ -43,7 +49,7 @@ def said(texts):
     clear()
     table.TEXTS = texts
     try:
-        for made in (faces.files(), ask_lines.files(), counts.files()):
+        for made in (faces.files(), ask_lines.files(), counts.files(), rust_functions.sentences(declared.exports())):
             list(made)
         forms.forms()
         return "\n".join(complete.faults())

@@ -12,11 +12,11 @@ FOLDER = os.path.join(HERE, "operations")
 # The families, in the order in which everything lists them.
 ORDER = ["integers", "zeros", "number_bytes", "slices", "text", "decimal"]
 OF_FAMILY = re.compile(
-    r"family|of|face|opening|uses|home|home of [A-Z]|title|about|struct \w+|word [A-Z_]+|bytes \w+|cases [a-z ]+?(?: of [A-Z])?"
+    r"family|of|face|opening|uses|home|home of [A-Z]|title|about|module|struct \w+|word [A-Z_]+|bytes \w+|cases [a-z ]+?(?: of [A-Z])?"
 )
 OF_OPERATION = [
     "name", "of", "heading", "note", "takes", "gives", "home", "body", "contract", "proof", "sentence", "vstd", "cases", "characters", "shown", "asked", "given",
-    "said", "answer", "also asked", "rust",
+    "said", "answer", "also asked", "rust", "whole", "part", "always", "places", "range", "begins", "array", "error", "signed",
 ]
 # What every operation has, of its own or from its family; `body` may stand for `home`.
 NEEDED = {

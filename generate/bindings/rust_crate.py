@@ -2,56 +2,66 @@
 import os
 import textwrap
 
-from bindings.rust_answers import form, is_range, is_struct, module, parameters
+from bindings.rust_answers import is_struct
+from bindings.rust_bodies import body
 from bindings.rust_examples import example
 from bindings.rust_exported import exported
+from bindings.rust_functions import functions, module
 from bindings.words import about, about_struct
-from declared import grouped
-from templates import filled_file
+from templates import TEMPLATES, filled_file, read
 
 # How wide documentation is; code is laid out as rustfmt does by bindings/rust/rustfmt.toml.
 WIDTH = 110
-
-
-def body(export):
-    name = "%s_%s" % (export.group, export.name) if export.takes_slices else export.symbol
-    call = "exported::%s(%s)" % (name, ", ".join(name for name, _ in export.parameters))
-    if not is_struct(export.answer):
-        return "    %s\n" % form(export).taken(call)
-    return "    let answer = %s;\n    answer.ok.then_some(%s)\n" % (call, form(export).taken("answer"))
+# Functions of a module that stand on another's, by hand.
+BY_HAND = {"text": "bindings/text.rs.in"}
 
 
 def documented(lines):
     return "".join(("/// " + line).rstrip() + "\n" for line in lines)
 
 
-def function(export):
-    comments = documented([*textwrap.wrap(export.sentence, WIDTH, break_on_hyphens=False), "", "```", *example(export), "```"])
-    head = "pub fn %s(%s) -> %s {" % (export.name, parameters(export), form(export).type)
-    return "%s#[inline]\n#[must_use]\n%s\n%s}\n" % (comments, head, body(export))
+def function_text(function):
+    comments = documented([*textwrap.wrap(function.sentence, WIDTH, break_on_hyphens=False), "", "```", *example(function), "```"])
+    answer = function.answer.type
+    head = "pub fn %s(%s)%s {" % (function.name, ", ".join("%s: %s" % pair for pair in function.parameters), " -> " + answer if answer != "()" else "")
+    return "%s#[inline]\n%s%s\n%s}\n" % (comments, "#[must_use]\n" * must_use(answer), head, "".join("    %s\n" % line for line in body(function)))
+
+
+def must_use(answer):
+    """A Result is marked already, and nothing is lost where nothing is answered."""
+    return answer != "()" and not answer.startswith("Result")
 
 
 def structs(group, found):
     made = {}
-    for export in found:
-        if is_struct(export.answer) and not export.answer.value and not is_range(export.answer):
-            fields = "".join("    pub %s: %s,\n" % field for field in export.answer.fields[1:])
+    for function in found:
+        answer = function.export.answer
+        if is_struct(answer) and function.answer.inner == answer.name:
+            fields = "".join("    pub %s: %s,\n" % field for field in answer.fields[1:])
             text = "/// %s\n#[derive(Clone, Copy, Debug, PartialEq, Eq)]\npub struct %s {\n%s}\n"
-            made[export.answer.name] = text % (about_struct(group, export.answer), export.answer.name, fields)
+            made[answer.name] = text % (about_struct(group, answer), answer.name, fields)
     return list(made.values())
 
 
+def uses(found):
+    types = " ".join(text for function in found for text in [function.answer.type, *(kind for _, kind in function.parameters)])
+    yield "crate::exported"
+    yield from ["crate::ordering"] * ("Ordering" in types)
+    yield from ["crate::{not_decimal, NotDecimal}"] * ("NotDecimal" in types)
+    yield from ["core::cmp::Ordering"] * ("Ordering" in types)
+    yield from ["core::ops::Range"] * ("Range<" in types)
+
+
 def module_file(group, found):
-    types = {form(export).inner for export in found}
-    uses = ["crate::exported"] + ["crate::ordering", "core::cmp::Ordering"] * ("Ordering" in types) + ["core::ops::Range"] * ("Range<usize>" in types)
-    head = "//! %s\n\n%s" % (about(group), "".join("use %s;\n" % name for name in uses))
-    return "\n".join([head, *structs(group, found), *map(function, found)])
+    by_hand = [read(os.path.join(TEMPLATES, BY_HAND[group]))] if group in BY_HAND else []
+    head = "//! %s\n\n%s" % (about(group, "module"), "".join("use %s;\n" % name for name in uses(found)))
+    return "\n".join([head, *structs(group, found), *map(function_text, found), *by_hand])
 
 
 def files(found, folder):
-    groups = grouped(found)
+    groups = functions(found)
     modules = "".join("pub mod %s;\n" % module(group) for group in sorted(groups, key=module))
     yield os.path.join(folder, "lib.rs"), filled_file("bindings/lib.rs.in", MODULES=modules)
     yield os.path.join(folder, "exported.rs"), exported(found)
-    for group, exports in groups.items():
-        yield os.path.join(folder, module(group) + ".rs"), module_file(group, exports)
+    for group, listed in groups.items():
+        yield os.path.join(folder, module(group) + ".rs"), module_file(group, listed)

@@ -1,34 +1,37 @@
 """The example in a function's documentation: a test that calls it, with answers worked out from its meaning."""
-from bindings.rust_answers import form, listed, literal, module
-from meanings import cases
+from bindings.rust_answers import listed, literal
 
 
-def assertion(call, answer, export):
-    if form(export).type == "bool":
+def assertion(call, answer, function):
+    if function.answer.type == "()":
+        return "%s;" % call
+    if function.answer.type == "bool":
         return "assert!(%s%s);" % ("" if answer else "!", call)
-    return "assert_eq!(%s, %s);" % (call, form(export).written(answer))
+    return "assert_eq!(%s, %s);" % (call, function.answer.written(answer))
 
 
-def example(export):
+def uses(function):
+    if function.answer.inner == "Ordering":
+        yield "use core::cmp::Ordering;"
+    errors = [name for name in function.answer.around if name != "Option"]
+    yield "use promisebook::%s;" % ("{%s}" % ", ".join([function.module, *errors]) if errors else function.module)
+
+
+def example(function):
     """The example's lines; a slice that is the same in every case is named once."""
-    worked = list(cases(export))
-    lines = ["use promisebook::%s;" % module(export.group)]
-    if form(export).inner == "Ordering":
-        lines.insert(0, "use core::cmp::Ordering;")
-    named = set()
-    for place, (name, written) in enumerate(export.parameters):
+    worked, lines, named = function.cases(), list(uses(function)), set()
+    for place, (name, written) in enumerate(function.parameters):
         if written.startswith("&[") and len({case[0][place] for case in worked}) == 1 and len(worked) > 1:
             named.add(name)
-            text = literal(worked[0][0][place], written, export)
-            lines.append("let %s = %s;" % (name, text))
+            lines.append("let %s = %s;" % (name, literal(worked[0][0][place], written, function.export)))
     for arguments, answer, after in worked:
         values = []
-        for (name, written), value in zip(export.parameters, arguments):
-            text = literal(value, written, export)
+        for (name, written), value in zip(function.parameters, arguments):
+            text = literal(value, written, function.export)
             if written.startswith("&mut "):
-                lines.append("let mut %s = %s;" % (name, listed(value, export)))
+                lines.append("let mut %s = %s;" % (name, listed(value, function.export)))
                 text = "&mut " + name
             values.append(name if name in named else text)
-        lines.append(assertion("%s::%s(%s)" % (module(export.group), export.name, ", ".join(values)), answer, export))
-        lines += ["assert_eq!(%s, %s);" % (name, listed(value, export)) for name, value in after.items()]
+        lines.append(assertion("%s::%s(%s)" % (function.module, function.name, ", ".join(values)), answer, function))
+        lines += ["assert_eq!(%s, %s);" % (name, listed(value, function.export)) for name, value in after.items()]
     return lines

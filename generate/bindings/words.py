@@ -10,8 +10,10 @@ def family_of(group):
     raise Fault("the exports pb_%s_* are of no family that has a sentence (`about`) in generate/operations" % group)
 
 
-def about(group):
-    text = family_of(group).record.get("about")
+def about(group, field="about"):
+    """A sentence on an integer type or a family; the Rust crate's own (`module`) where it has one."""
+    record = family_of(group).record
+    text = record.get(field) or record.get("about")
     return text.format(**BY_NAME[group].sentence_words()) if group in BY_NAME else text
 
 

@@ -4,11 +4,18 @@ import re
 SIGNED, UNSIGNED = re.compile(rb"-?[0-9]+"), re.compile(rb"[0-9]+")
 
 
+def says_a_number(kind, part):
+    return bool((SIGNED if kind.sign == "signed" else UNSIGNED).fullmatch(part))
+
+
 def read(kind, s, start, end):
     part = s[start:end] if start <= end <= len(s) else b""
-    if not (SIGNED if kind.sign == "signed" else UNSIGNED).fullmatch(part):
-        return None
-    return int(part) if kind.least <= int(part) <= kind.greatest else None
+    return int(part) if says_a_number(kind, part) and kind.least <= int(part) <= kind.greatest else None
+
+
+def refusal(kind, s):
+    """Why it is refused."""
+    return "TooLarge" if says_a_number(kind, s) else "NoNumber"
 
 
 def write(kind, x, s, at):

@@ -2,7 +2,7 @@
 
 
 def number_of(order):
-    return lambda kind, s: int.from_bytes(s, order) if len(s) == kind.bits // 8 else None
+    return lambda kind, s: int.from_bytes(s, order, signed=kind.sign == "signed") if len(s) == kind.bits // 8 else None
 
 
 def written_into(order):
@@ -10,7 +10,7 @@ def written_into(order):
         size = kind.bits // 8
         if at + size > len(s):
             return None
-        s[at:at + size] = x.to_bytes(size, order)
+        s[at:at + size] = x.to_bytes(size, order, signed=kind.sign == "signed")
         return True
 
     return changed

@@ -1,303 +1,540 @@
-//! Slices of bytes, by parts: the bytes of `s` from the place `from` up to and without `to`.
+//! Slices of bytes: a function works on all of `s`, and its namesake with `_in` on the bytes `part` of it.
 
 use crate::exported;
 use core::ops::Range;
 
-/// Two parts: from `from` up to and without `middle`, and from there up to and without `to`.
-#[derive(Clone, Copy, Debug, PartialEq, Eq)]
-pub struct Split {
-    pub from: usize,
-    pub middle: usize,
-    pub to: usize,
+/// How many bytes `s` has.
+///
+/// ```
+/// use promisebook::bytes;
+/// assert_eq!(bytes::len(&[20, 30, 40, 50]), 4);
+/// ```
+#[inline]
+#[must_use]
+pub fn len(s: &[u8]) -> usize {
+    exported::bytes_len(s, 0, s.len()).value
 }
 
-/// The first byte, and the rest from `from` up to and without `to`.
-#[derive(Clone, Copy, Debug, PartialEq, Eq)]
-pub struct FirstAndRest {
-    pub first: u8,
-    pub from: usize,
-    pub to: usize,
-}
-
-/// How many bytes the part has. Refused where `from` is past `to`, or `to` past the end.
+/// How many bytes the part has. Refused where `s` has no such part.
 ///
 /// ```
 /// use promisebook::bytes;
 /// let s = &[10, 20, 30, 40, 50, 60];
-/// assert_eq!(bytes::len(s, 1, 5), Some(4));
-/// assert_eq!(bytes::len(s, 5, 1), None);
-/// assert_eq!(bytes::len(s, 1, 7), None);
+/// assert_eq!(bytes::len_in(s, 1..5), Some(4));
+/// assert_eq!(bytes::len_in(s, 5..1), None);
+/// assert_eq!(bytes::len_in(s, 1..7), None);
 /// ```
 #[inline]
 #[must_use]
-pub fn len(s: &[u8], from: usize, to: usize) -> Option<usize> {
-    let answer = exported::bytes_len(s, from, to);
+pub fn len_in(s: &[u8], part: Range<usize>) -> Option<usize> {
+    let answer = exported::bytes_len(s, part.start, part.end);
     answer.ok.then_some(answer.value)
 }
 
-/// Whether the part has no byte. Refused where `from` is past `to`, or `to` past the end.
+/// Whether `s` has no byte.
+///
+/// ```
+/// use promisebook::bytes;
+/// assert!(bytes::is_empty(&[]));
+/// assert!(!bytes::is_empty(&[30]));
+/// ```
+#[inline]
+#[must_use]
+pub fn is_empty(s: &[u8]) -> bool {
+    exported::bytes_is_empty(s, 0, s.len()).value
+}
+
+/// Whether the part has no byte. Refused where `s` has no such part.
 ///
 /// ```
 /// use promisebook::bytes;
 /// let s = &[10, 20, 30, 40, 50, 60];
-/// assert_eq!(bytes::is_empty(s, 2, 2), Some(true));
-/// assert_eq!(bytes::is_empty(s, 2, 3), Some(false));
-/// assert_eq!(bytes::is_empty(s, 7, 7), None);
+/// assert_eq!(bytes::is_empty_in(s, 2..2), Some(true));
+/// assert_eq!(bytes::is_empty_in(s, 2..3), Some(false));
+/// assert_eq!(bytes::is_empty_in(s, 7..7), None);
 /// ```
 #[inline]
 #[must_use]
-pub fn is_empty(s: &[u8], from: usize, to: usize) -> Option<bool> {
-    let answer = exported::bytes_is_empty(s, from, to);
+pub fn is_empty_in(s: &[u8], part: Range<usize>) -> Option<bool> {
+    let answer = exported::bytes_is_empty(s, part.start, part.end);
     answer.ok.then_some(answer.value)
 }
 
-/// The byte `i` of the part, counted from `from`. Refused where `from` is past `to`, or `to` past the end, and
-/// where the part has no byte `i`.
+/// The byte `i` of `s`, counted from its start. Refused where `s` has no byte `i`.
 ///
 /// ```
 /// use promisebook::bytes;
-/// let s = &[10, 20, 30, 40, 50, 60];
-/// assert_eq!(bytes::get(s, 2, 5, 1), Some(40));
-/// assert_eq!(bytes::get(s, 2, 5, 3), None);
+/// let s = &[30, 40, 50];
+/// assert_eq!(bytes::get(s, 1), Some(40));
+/// assert_eq!(bytes::get(s, 3), None);
 /// ```
 #[inline]
 #[must_use]
-pub fn get(s: &[u8], from: usize, to: usize, i: usize) -> Option<u8> {
-    let answer = exported::bytes_get(s, from, to, i);
+pub fn get(s: &[u8], i: usize) -> Option<u8> {
+    let answer = exported::bytes_get(s, 0, s.len(), i);
     answer.ok.then_some(answer.value)
 }
 
-/// The first byte of the part. Refused where `from` is past `to`, or `to` past the end, and where the part is
-/// empty.
+/// The byte `i` of the part, counted from its start. Refused where the part has no byte `i`. Refused, too, where
+/// `s` has no such part.
 ///
 /// ```
 /// use promisebook::bytes;
 /// let s = &[10, 20, 30, 40, 50, 60];
-/// assert_eq!(bytes::first(s, 2, 5), Some(30));
-/// assert_eq!(bytes::first(s, 2, 2), None);
+/// assert_eq!(bytes::get_in(s, 2..5, 1), Some(40));
+/// assert_eq!(bytes::get_in(s, 2..5, 3), None);
 /// ```
 #[inline]
 #[must_use]
-pub fn first(s: &[u8], from: usize, to: usize) -> Option<u8> {
-    let answer = exported::bytes_first(s, from, to);
+pub fn get_in(s: &[u8], part: Range<usize>, i: usize) -> Option<u8> {
+    let answer = exported::bytes_get(s, part.start, part.end, i);
     answer.ok.then_some(answer.value)
 }
 
-/// The last byte of the part. Refused where `from` is past `to`, or `to` past the end, and where the part is
-/// empty.
+/// The first byte of `s`. Refused where `s` is empty.
 ///
 /// ```
 /// use promisebook::bytes;
-/// let s = &[10, 20, 30, 40, 50, 60];
-/// assert_eq!(bytes::last(s, 2, 5), Some(50));
-/// assert_eq!(bytes::last(s, 2, 2), None);
+/// assert_eq!(bytes::first(&[30, 40, 50]), Some(30));
+/// assert_eq!(bytes::first(&[]), None);
 /// ```
 #[inline]
 #[must_use]
-pub fn last(s: &[u8], from: usize, to: usize) -> Option<u8> {
-    let answer = exported::bytes_last(s, from, to);
+pub fn first(s: &[u8]) -> Option<u8> {
+    let answer = exported::bytes_first(s, 0, s.len());
     answer.ok.then_some(answer.value)
 }
 
-/// The bytes from `a` up to and without `e` of the part, counted from `from`, by their places in `s`. Refused
-/// where `from` is past `to`, or `to` past the end, and where `a` is past `e` or `e` past the part's end.
+/// The first byte of the part. Refused where the part is empty. Refused, too, where `s` has no such part.
 ///
 /// ```
 /// use promisebook::bytes;
 /// let s = &[10, 20, 30, 40, 50, 60];
-/// assert_eq!(bytes::sub_range(s, 1, 6, 2, 4), Some(3..5));
-/// assert_eq!(bytes::sub_range(s, 1, 6, 2, 6), None);
+/// assert_eq!(bytes::first_in(s, 2..5), Some(30));
+/// assert_eq!(bytes::first_in(s, 2..2), None);
 /// ```
 #[inline]
 #[must_use]
-pub fn sub_range(s: &[u8], from: usize, to: usize, a: usize, e: usize) -> Option<Range<usize>> {
-    let answer = exported::bytes_sub_range(s, from, to, a, e);
+pub fn first_in(s: &[u8], part: Range<usize>) -> Option<u8> {
+    let answer = exported::bytes_first(s, part.start, part.end);
+    answer.ok.then_some(answer.value)
+}
+
+/// The last byte of `s`. Refused where `s` is empty.
+///
+/// ```
+/// use promisebook::bytes;
+/// assert_eq!(bytes::last(&[30, 40, 50]), Some(50));
+/// assert_eq!(bytes::last(&[]), None);
+/// ```
+#[inline]
+#[must_use]
+pub fn last(s: &[u8]) -> Option<u8> {
+    let answer = exported::bytes_last(s, 0, s.len());
+    answer.ok.then_some(answer.value)
+}
+
+/// The last byte of the part. Refused where the part is empty. Refused, too, where `s` has no such part.
+///
+/// ```
+/// use promisebook::bytes;
+/// let s = &[10, 20, 30, 40, 50, 60];
+/// assert_eq!(bytes::last_in(s, 2..5), Some(50));
+/// assert_eq!(bytes::last_in(s, 2..2), None);
+/// ```
+#[inline]
+#[must_use]
+pub fn last_in(s: &[u8], part: Range<usize>) -> Option<u8> {
+    let answer = exported::bytes_last(s, part.start, part.end);
+    answer.ok.then_some(answer.value)
+}
+
+/// The bytes `range` of `s`, counted from its start. Refused where `s` has no such bytes.
+///
+/// ```
+/// use promisebook::bytes;
+/// let s = &[20, 30, 40, 50, 60];
+/// assert_eq!(bytes::sub_range(s, 2..4), Some(&[40, 50][..]));
+/// assert_eq!(bytes::sub_range(s, 2..6), None);
+/// ```
+#[inline]
+#[must_use]
+pub fn sub_range(s: &[u8], range: Range<usize>) -> Option<&[u8]> {
+    let answer = exported::bytes_sub_range(s, 0, s.len(), range.start, range.end);
+    answer.ok.then_some(s.get(answer.from..answer.to)?)
+}
+
+/// The bytes `range` of the part, counted from its start. Refused where the part has no such bytes. Refused, too,
+/// where `s` has no such part. The places answered are counted from the start of `s`.
+///
+/// ```
+/// use promisebook::bytes;
+/// let s = &[10, 20, 30, 40, 50, 60];
+/// assert_eq!(bytes::sub_range_in(s, 1..6, 2..4), Some(3..5));
+/// assert_eq!(bytes::sub_range_in(s, 1..6, 2..6), None);
+/// ```
+#[inline]
+#[must_use]
+pub fn sub_range_in(s: &[u8], part: Range<usize>, range: Range<usize>) -> Option<Range<usize>> {
+    let answer = exported::bytes_sub_range(s, part.start, part.end, range.start, range.end);
     answer.ok.then_some(answer.from..answer.to)
 }
 
-/// The first `m` bytes of the part and the rest, by their places in `s`. Refused where `from` is past `to`, or
-/// `to` past the end, and where the part has fewer than `m` bytes.
+/// The first `m` bytes of `s`, and the rest. Refused where `s` has fewer than `m` bytes.
 ///
 /// ```
 /// use promisebook::bytes;
-/// let s = &[10, 20, 30, 40, 50, 60];
-/// assert_eq!(bytes::split_at(s, 1, 6, 2), Some(bytes::Split { from: 1, middle: 3, to: 6 }));
-/// assert_eq!(bytes::split_at(s, 1, 6, 6), None);
+/// let s = &[20, 30, 40, 50, 60];
+/// assert_eq!(bytes::split_at(s, 2), Some((&[20, 30][..], &[40, 50, 60][..])));
+/// assert_eq!(bytes::split_at(s, 6), None);
 /// ```
 #[inline]
 #[must_use]
-pub fn split_at(s: &[u8], from: usize, to: usize, m: usize) -> Option<Split> {
-    let answer = exported::bytes_split_at(s, from, to, m);
-    answer.ok.then_some(Split { from: answer.from, middle: answer.middle, to: answer.to })
+pub fn split_at(s: &[u8], m: usize) -> Option<(&[u8], &[u8])> {
+    let answer = exported::bytes_split_at(s, 0, s.len(), m);
+    answer.ok.then_some((s.get(answer.from..answer.middle)?, s.get(answer.middle..answer.to)?))
 }
 
-/// The first byte of the part, and the rest by its places in `s`. Refused where `from` is past `to`, or `to` past
-/// the end, and where the part is empty.
+/// The first `m` bytes of the part, and the rest. Refused where the part has fewer than `m` bytes. Refused, too,
+/// where `s` has no such part. The places answered are counted from the start of `s`.
 ///
 /// ```
 /// use promisebook::bytes;
 /// let s = &[10, 20, 30, 40, 50, 60];
-/// assert_eq!(bytes::split_first(s, 2, 5), Some(bytes::FirstAndRest { first: 30, from: 3, to: 5 }));
-/// assert_eq!(bytes::split_first(s, 2, 2), None);
+/// assert_eq!(bytes::split_at_in(s, 1..6, 2), Some((1..3, 3..6)));
+/// assert_eq!(bytes::split_at_in(s, 1..6, 6), None);
 /// ```
 #[inline]
 #[must_use]
-pub fn split_first(s: &[u8], from: usize, to: usize) -> Option<FirstAndRest> {
-    let answer = exported::bytes_split_first(s, from, to);
-    answer.ok.then_some(FirstAndRest { first: answer.first, from: answer.from, to: answer.to })
+pub fn split_at_in(s: &[u8], part: Range<usize>, m: usize) -> Option<(Range<usize>, Range<usize>)> {
+    let answer = exported::bytes_split_at(s, part.start, part.end, m);
+    answer.ok.then_some((answer.from..answer.middle, answer.middle..answer.to))
 }
 
-/// The first `n` bytes of the part, or all of them where it has fewer, by their places in `s`. Refused where
-/// `from` is past `to`, or `to` past the end, and where the part is empty or `n` is 0.
+/// The first byte of `s`, and the rest. Refused where `s` is empty.
 ///
 /// ```
 /// use promisebook::bytes;
-/// let s = &[10, 20, 30, 40, 50, 60];
-/// assert_eq!(bytes::next_piece(s, 0, 6, 4), Some(0..4));
-/// assert_eq!(bytes::next_piece(s, 4, 6, 4), Some(4..6));
-/// assert_eq!(bytes::next_piece(s, 6, 6, 4), None);
-/// assert_eq!(bytes::next_piece(s, 0, 6, 0), None);
+/// assert_eq!(bytes::split_first(&[30, 40, 50]), Some((30, &[40, 50][..])));
+/// assert_eq!(bytes::split_first(&[]), None);
 /// ```
 #[inline]
 #[must_use]
-pub fn next_piece(s: &[u8], from: usize, to: usize, n: usize) -> Option<Range<usize>> {
-    let answer = exported::bytes_next_piece(s, from, to, n);
-    answer.ok.then_some(answer.from..answer.to)
+pub fn split_first(s: &[u8]) -> Option<(u8, &[u8])> {
+    let answer = exported::bytes_split_first(s, 0, s.len());
+    answer.ok.then_some((answer.first, s.get(answer.from..answer.to)?))
 }
 
-/// Whether the part begins with `needle`. Refused where `from` is past `to`, or `to` past the end.
+/// The first byte of the part, and the rest. Refused where the part is empty. Refused, too, where `s` has no such
+/// part. The places answered are counted from the start of `s`.
 ///
 /// ```
 /// use promisebook::bytes;
 /// let s = &[10, 20, 30, 40, 50, 60];
-/// assert_eq!(bytes::starts_with(s, 1, 4, &[20, 30]), Some(true));
-/// assert_eq!(bytes::starts_with(s, 1, 4, &[30]), Some(false));
-/// assert_eq!(bytes::starts_with(s, 1, 7, &[]), None);
+/// assert_eq!(bytes::split_first_in(s, 2..5), Some((30, 3..5)));
+/// assert_eq!(bytes::split_first_in(s, 2..2), None);
 /// ```
 #[inline]
 #[must_use]
-pub fn starts_with(s: &[u8], from: usize, to: usize, needle: &[u8]) -> Option<bool> {
-    let answer = exported::bytes_starts_with(s, from, to, needle);
+pub fn split_first_in(s: &[u8], part: Range<usize>) -> Option<(u8, Range<usize>)> {
+    let answer = exported::bytes_split_first(s, part.start, part.end);
+    answer.ok.then_some((answer.first, answer.from..answer.to))
+}
+
+/// The first `n` bytes of `s`, or all of them where it has fewer, and the rest. Refused where `s` is empty or `n`
+/// is 0.
+///
+/// ```
+/// use promisebook::bytes;
+/// assert_eq!(bytes::next_piece(&[10, 20, 30, 40, 50, 60], 4), Some((&[10, 20, 30, 40][..], &[50, 60][..])));
+/// assert_eq!(bytes::next_piece(&[50, 60], 4), Some((&[50, 60][..], &[][..])));
+/// assert_eq!(bytes::next_piece(&[], 4), None);
+/// assert_eq!(bytes::next_piece(&[10, 20, 30, 40, 50, 60], 0), None);
+/// ```
+#[inline]
+#[must_use]
+pub fn next_piece(s: &[u8], n: usize) -> Option<(&[u8], &[u8])> {
+    let answer = exported::bytes_next_piece(s, 0, s.len(), n);
+    answer.ok.then_some((s.get(answer.from..answer.to)?, s.get(answer.to..)?))
+}
+
+/// The first `n` bytes of the part, or all of them where it has fewer, and the rest. Refused where the part is
+/// empty or `n` is 0. Refused, too, where `s` has no such part. The places answered are counted from the start of
+/// `s`.
+///
+/// ```
+/// use promisebook::bytes;
+/// let s = &[10, 20, 30, 40, 50, 60];
+/// assert_eq!(bytes::next_piece_in(s, 0..6, 4), Some((0..4, 4..6)));
+/// assert_eq!(bytes::next_piece_in(s, 4..6, 4), Some((4..6, 6..6)));
+/// assert_eq!(bytes::next_piece_in(s, 6..6, 4), None);
+/// assert_eq!(bytes::next_piece_in(s, 0..6, 0), None);
+/// ```
+#[inline]
+#[must_use]
+pub fn next_piece_in(s: &[u8], part: Range<usize>, n: usize) -> Option<(Range<usize>, Range<usize>)> {
+    let answer = exported::bytes_next_piece(s, part.start, part.end, n);
+    answer.ok.then_some((answer.from..answer.to, answer.to..part.end))
+}
+
+/// Whether `s` begins with `needle`.
+///
+/// ```
+/// use promisebook::bytes;
+/// let s = &[20, 30, 40];
+/// assert!(bytes::starts_with(s, &[20, 30]));
+/// assert!(!bytes::starts_with(s, &[30]));
+/// ```
+#[inline]
+#[must_use]
+pub fn starts_with(s: &[u8], needle: &[u8]) -> bool {
+    exported::bytes_starts_with(s, 0, s.len(), needle).value
+}
+
+/// Whether the part begins with `needle`. Refused where `s` has no such part.
+///
+/// ```
+/// use promisebook::bytes;
+/// let s = &[10, 20, 30, 40, 50, 60];
+/// assert_eq!(bytes::starts_with_in(s, 1..4, &[20, 30]), Some(true));
+/// assert_eq!(bytes::starts_with_in(s, 1..4, &[30]), Some(false));
+/// assert_eq!(bytes::starts_with_in(s, 1..7, &[]), None);
+/// ```
+#[inline]
+#[must_use]
+pub fn starts_with_in(s: &[u8], part: Range<usize>, needle: &[u8]) -> Option<bool> {
+    let answer = exported::bytes_starts_with(s, part.start, part.end, needle);
     answer.ok.then_some(answer.value)
 }
 
-/// Whether the part ends with `needle`. Refused where `from` is past `to`, or `to` past the end.
+/// Whether `s` ends with `needle`.
+///
+/// ```
+/// use promisebook::bytes;
+/// let s = &[20, 30, 40];
+/// assert!(bytes::ends_with(s, &[30, 40]));
+/// assert!(!bytes::ends_with(s, &[50]));
+/// ```
+#[inline]
+#[must_use]
+pub fn ends_with(s: &[u8], needle: &[u8]) -> bool {
+    exported::bytes_ends_with(s, 0, s.len(), needle).value
+}
+
+/// Whether the part ends with `needle`. Refused where `s` has no such part.
 ///
 /// ```
 /// use promisebook::bytes;
 /// let s = &[10, 20, 30, 40, 50, 60];
-/// assert_eq!(bytes::ends_with(s, 1, 4, &[30, 40]), Some(true));
-/// assert_eq!(bytes::ends_with(s, 1, 4, &[50]), Some(false));
-/// assert_eq!(bytes::ends_with(s, 1, 7, &[]), None);
+/// assert_eq!(bytes::ends_with_in(s, 1..4, &[30, 40]), Some(true));
+/// assert_eq!(bytes::ends_with_in(s, 1..4, &[50]), Some(false));
+/// assert_eq!(bytes::ends_with_in(s, 1..7, &[]), None);
 /// ```
 #[inline]
 #[must_use]
-pub fn ends_with(s: &[u8], from: usize, to: usize, needle: &[u8]) -> Option<bool> {
-    let answer = exported::bytes_ends_with(s, from, to, needle);
+pub fn ends_with_in(s: &[u8], part: Range<usize>, needle: &[u8]) -> Option<bool> {
+    let answer = exported::bytes_ends_with(s, part.start, part.end, needle);
     answer.ok.then_some(answer.value)
 }
 
-/// Whether `v` is a byte of the part. Refused where `from` is past `to`, or `to` past the end.
+/// Whether `v` is a byte of `s`.
+///
+/// ```
+/// use promisebook::bytes;
+/// let s = &[20, 30, 40];
+/// assert!(bytes::contains(s, 40));
+/// assert!(!bytes::contains(s, 50));
+/// ```
+#[inline]
+#[must_use]
+pub fn contains(s: &[u8], v: u8) -> bool {
+    exported::bytes_contains(s, 0, s.len(), v).value
+}
+
+/// Whether `v` is a byte of the part. Refused where `s` has no such part.
 ///
 /// ```
 /// use promisebook::bytes;
 /// let s = &[10, 20, 30, 40, 50, 60];
-/// assert_eq!(bytes::contains(s, 1, 4, 40), Some(true));
-/// assert_eq!(bytes::contains(s, 1, 4, 50), Some(false));
-/// assert_eq!(bytes::contains(s, 4, 1, 40), None);
+/// assert_eq!(bytes::contains_in(s, 1..4, 40), Some(true));
+/// assert_eq!(bytes::contains_in(s, 1..4, 50), Some(false));
+/// assert_eq!(bytes::contains_in(s, 4..1, 40), None);
 /// ```
 #[inline]
 #[must_use]
-pub fn contains(s: &[u8], from: usize, to: usize, v: u8) -> Option<bool> {
-    let answer = exported::bytes_contains(s, from, to, v);
+pub fn contains_in(s: &[u8], part: Range<usize>, v: u8) -> Option<bool> {
+    let answer = exported::bytes_contains(s, part.start, part.end, v);
     answer.ok.then_some(answer.value)
 }
 
-/// Whether the part and `other` have the same bytes. Refused where `from` is past `to`, or `to` past the end.
+/// Whether `s` and `other` have the same bytes.
+///
+/// ```
+/// use promisebook::bytes;
+/// let s = &[20, 30];
+/// assert!(bytes::equal(s, &[20, 30]));
+/// assert!(!bytes::equal(s, &[20, 30, 40]));
+/// ```
+#[inline]
+#[must_use]
+pub fn equal(s: &[u8], other: &[u8]) -> bool {
+    exported::bytes_equal(s, 0, s.len(), other).value
+}
+
+/// Whether the part and `other` have the same bytes. Refused where `s` has no such part.
 ///
 /// ```
 /// use promisebook::bytes;
 /// let s = &[10, 20, 30, 40, 50, 60];
-/// assert_eq!(bytes::equal(s, 1, 3, &[20, 30]), Some(true));
-/// assert_eq!(bytes::equal(s, 1, 3, &[20, 30, 40]), Some(false));
-/// assert_eq!(bytes::equal(s, 1, 7, &[]), None);
+/// assert_eq!(bytes::equal_in(s, 1..3, &[20, 30]), Some(true));
+/// assert_eq!(bytes::equal_in(s, 1..3, &[20, 30, 40]), Some(false));
+/// assert_eq!(bytes::equal_in(s, 1..7, &[]), None);
 /// ```
 #[inline]
 #[must_use]
-pub fn equal(s: &[u8], from: usize, to: usize, other: &[u8]) -> Option<bool> {
-    let answer = exported::bytes_equal(s, from, to, other);
+pub fn equal_in(s: &[u8], part: Range<usize>, other: &[u8]) -> Option<bool> {
+    let answer = exported::bytes_equal(s, part.start, part.end, other);
     answer.ok.then_some(answer.value)
 }
 
-/// Makes `v` the byte `i` of the part, counted from `from`, and changes no other byte. Refused where `from` is
-/// past `to`, or `to` past the end, and where the part has no byte `i`.
+/// Makes `v` the byte `i` of `s`, counted from its start, and changes no other byte. Refused where `s` has no
+/// byte `i`.
+///
+/// ```
+/// use promisebook::bytes;
+/// let mut s = [30, 40, 50];
+/// assert_eq!(bytes::set(&mut s, 1, 7), Some(()));
+/// assert_eq!(s, [30, 7, 50]);
+/// let mut s = [30, 40, 50];
+/// assert_eq!(bytes::set(&mut s, 3, 7), None);
+/// assert_eq!(s, [30, 40, 50]);
+/// ```
+#[inline]
+#[must_use]
+pub fn set(s: &mut [u8], i: usize, v: u8) -> Option<()> {
+    exported::bytes_set(s, 0, s.len(), i, v).then_some(())
+}
+
+/// Makes `v` the byte `i` of the part, counted from its start, and changes no other byte. Refused where the part
+/// has no byte `i`. Refused, too, where `s` has no such part.
 ///
 /// ```
 /// use promisebook::bytes;
 /// let mut s = [10, 20, 30, 40, 50, 60];
-/// assert_eq!(bytes::set(&mut s, 2, 5, 1, 7), Some(()));
+/// assert_eq!(bytes::set_in(&mut s, 2..5, 1, 7), Some(()));
 /// assert_eq!(s, [10, 20, 30, 7, 50, 60]);
 /// let mut s = [10, 20, 30, 40, 50, 60];
-/// assert_eq!(bytes::set(&mut s, 2, 5, 3, 7), None);
+/// assert_eq!(bytes::set_in(&mut s, 2..5, 3, 7), None);
 /// assert_eq!(s, [10, 20, 30, 40, 50, 60]);
 /// ```
 #[inline]
 #[must_use]
-pub fn set(s: &mut [u8], from: usize, to: usize, i: usize, v: u8) -> Option<()> {
-    exported::bytes_set(s, from, to, i, v).then_some(())
+pub fn set_in(s: &mut [u8], part: Range<usize>, i: usize, v: u8) -> Option<()> {
+    exported::bytes_set(s, part.start, part.end, i, v).then_some(())
 }
 
-/// Turns the part the other way round and changes no byte outside it. Refused where `from` is past `to`, or `to`
-/// past the end.
+/// Turns `s` the other way round.
+///
+/// ```
+/// use promisebook::bytes;
+/// let mut s = [20, 30, 40, 50];
+/// bytes::reverse(&mut s);
+/// assert_eq!(s, [50, 40, 30, 20]);
+/// ```
+#[inline]
+pub fn reverse(s: &mut [u8]) {
+    exported::bytes_reverse(s, 0, s.len());
+}
+
+/// Turns the part the other way round. Changes no byte outside it. Refused where `s` has no such part.
 ///
 /// ```
 /// use promisebook::bytes;
 /// let mut s = [10, 20, 30, 40, 50, 60];
-/// assert_eq!(bytes::reverse(&mut s, 1, 5), Some(()));
+/// assert_eq!(bytes::reverse_in(&mut s, 1..5), Some(()));
 /// assert_eq!(s, [10, 50, 40, 30, 20, 60]);
 /// let mut s = [10, 20, 30, 40, 50, 60];
-/// assert_eq!(bytes::reverse(&mut s, 1, 7), None);
+/// assert_eq!(bytes::reverse_in(&mut s, 1..7), None);
 /// assert_eq!(s, [10, 20, 30, 40, 50, 60]);
 /// ```
 #[inline]
 #[must_use]
-pub fn reverse(s: &mut [u8], from: usize, to: usize) -> Option<()> {
-    exported::bytes_reverse(s, from, to).then_some(())
+pub fn reverse_in(s: &mut [u8], part: Range<usize>) -> Option<()> {
+    exported::bytes_reverse(s, part.start, part.end).then_some(())
 }
 
-/// Makes the part's bytes those of `other` and changes no byte outside it. Refused where `from` is past `to`, or
-/// `to` past the end, and where `other` has another length than the part.
+/// Makes the bytes of `s` those of `other`. Refused where `other` has another length.
+///
+/// ```
+/// use promisebook::bytes;
+/// let mut s = [20, 30, 40];
+/// assert_eq!(bytes::copy_from(&mut s, &[7, 8, 9]), Some(()));
+/// assert_eq!(s, [7, 8, 9]);
+/// let mut s = [20, 30, 40];
+/// assert_eq!(bytes::copy_from(&mut s, &[7, 8]), None);
+/// assert_eq!(s, [20, 30, 40]);
+/// ```
+#[inline]
+#[must_use]
+pub fn copy_from(s: &mut [u8], other: &[u8]) -> Option<()> {
+    exported::bytes_copy_from(s, 0, s.len(), other).then_some(())
+}
+
+/// Makes the bytes of the part those of `other`. Refused where `other` has another length. Changes no byte
+/// outside it. Refused, too, where `s` has no such part.
 ///
 /// ```
 /// use promisebook::bytes;
 /// let mut s = [10, 20, 30, 40, 50, 60];
-/// assert_eq!(bytes::copy_from(&mut s, 1, 4, &[7, 8, 9]), Some(()));
+/// assert_eq!(bytes::copy_from_in(&mut s, 1..4, &[7, 8, 9]), Some(()));
 /// assert_eq!(s, [10, 7, 8, 9, 50, 60]);
 /// let mut s = [10, 20, 30, 40, 50, 60];
-/// assert_eq!(bytes::copy_from(&mut s, 1, 4, &[7, 8]), None);
+/// assert_eq!(bytes::copy_from_in(&mut s, 1..4, &[7, 8]), None);
 /// assert_eq!(s, [10, 20, 30, 40, 50, 60]);
 /// ```
 #[inline]
 #[must_use]
-pub fn copy_from(s: &mut [u8], from: usize, to: usize, other: &[u8]) -> Option<()> {
-    exported::bytes_copy_from(s, from, to, other).then_some(())
+pub fn copy_from_in(s: &mut [u8], part: Range<usize>, other: &[u8]) -> Option<()> {
+    exported::bytes_copy_from(s, part.start, part.end, other).then_some(())
 }
 
-/// Copies the part to the place `at` on, as if all of it had been read before a byte is written: both may
-/// overlap. Changes no other byte. Refused where `from` is past `to`, or `to` past the end, and where the copy
-/// would go past the end.
+/// Copies the bytes `range` of `s` to the place `at` on, both counted from its start, as if all of them had been
+/// read before a byte is written: both may overlap. Changes no other byte. Refused where `s` has no such bytes,
+/// and where the copy would go past its end.
 ///
 /// ```
 /// use promisebook::bytes;
 /// let mut s = [10, 20, 30, 40, 50, 60];
-/// assert_eq!(bytes::copy_within(&mut s, 0, 4, 2), Some(()));
+/// assert_eq!(bytes::copy_within(&mut s, 0..4, 2), Some(()));
 /// assert_eq!(s, [10, 20, 10, 20, 30, 40]);
 /// let mut s = [10, 20, 30, 40, 50, 60];
-/// assert_eq!(bytes::copy_within(&mut s, 0, 4, 3), None);
+/// assert_eq!(bytes::copy_within(&mut s, 0..4, 3), None);
 /// assert_eq!(s, [10, 20, 30, 40, 50, 60]);
 /// ```
 #[inline]
 #[must_use]
-pub fn copy_within(s: &mut [u8], from: usize, to: usize, at: usize) -> Option<()> {
-    exported::bytes_copy_within(s, from, to, at).then_some(())
+pub fn copy_within(s: &mut [u8], range: Range<usize>, at: usize) -> Option<()> {
+    exported::bytes_copy_within(s, range.start, range.end, at).then_some(())
+}
+
+/// Copies the bytes `range` of the part to the place `at` on, both counted from its start, as if all of them had
+/// been read before a byte is written: both may overlap. Changes no other byte. Refused where the part has no
+/// such bytes, and where the copy would go past its end. Refused, too, where `s` has no such part.
+///
+/// ```
+/// use promisebook::bytes;
+/// let mut s = [9, 10, 20, 30, 40, 50, 60, 9];
+/// assert_eq!(bytes::copy_within_in(&mut s, 1..7, 0..4, 2), Some(()));
+/// assert_eq!(s, [9, 10, 20, 10, 20, 30, 40, 9]);
+/// let mut s = [9, 10, 20, 30, 40, 50, 60, 9];
+/// assert_eq!(bytes::copy_within_in(&mut s, 1..7, 0..4, 3), None);
+/// assert_eq!(s, [9, 10, 20, 30, 40, 50, 60, 9]);
+/// let mut s = [9, 10, 20, 30, 40, 50, 60, 9];
+/// assert_eq!(bytes::copy_within_in(&mut s, 1..9, 0..4, 3), None);
+/// assert_eq!(s, [9, 10, 20, 30, 40, 50, 60, 9]);
+/// ```
+#[inline]
+#[must_use]
+pub fn copy_within_in(s: &mut [u8], part: Range<usize>, range: Range<usize>, at: usize) -> Option<()> {
+    copy_within(s.get_mut(part)?, range, at)
 }

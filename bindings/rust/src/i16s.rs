@@ -2,7 +2,9 @@
 
 use crate::exported;
 use crate::ordering;
+use crate::{not_decimal, NotDecimal};
 use core::cmp::Ordering;
+use core::ops::Range;
 
 /// The sum `x + y`, wrapped: the signed number of 16 bits that differs from it by a multiple of 2^16.
 ///
@@ -357,63 +359,245 @@ pub fn partial_cmp(x: i16, y: i16) -> Option<Ordering> {
     answer.ok.then_some(ordering(answer.value))
 }
 
-/// The number that the bytes of `s` from `from` up to and without `to` say in decimal: one figure or more from 0
-/// to 9, with '-' in front or without. Zeros in front are read, and '+' is not. Refused where they say no number,
-/// where it is not from -32768 to 32767, and where `to` is past the end.
+/// The number that `s` says in decimal: one figure or more from 0 to 9, with '-' in front or without. Zeros in
+/// front are read, and '+' is not. Refused with the reason where it says no number, and where that is not from
+/// -32768 to 32767.
 ///
 /// ```
-/// use promisebook::i16s;
-/// assert_eq!(i16s::read_decimal(b"32767", 0, 5), Some(32767));
-/// assert_eq!(i16s::read_decimal(b"32768", 0, 5), None);
-/// assert_eq!(i16s::read_decimal(b"-32768", 0, 6), Some(-32768));
-/// assert_eq!(i16s::read_decimal(b"-32769", 0, 6), None);
-/// assert_eq!(i16s::read_decimal(b"007", 0, 3), Some(7));
-/// assert_eq!(i16s::read_decimal(b"-0", 0, 2), Some(0));
-/// assert_eq!(i16s::read_decimal(b"+5", 0, 2), None);
-/// assert_eq!(i16s::read_decimal(b"-", 0, 1), None);
-/// assert_eq!(i16s::read_decimal(b"", 0, 0), None);
-/// assert_eq!(i16s::read_decimal(b"n=42;", 2, 4), Some(42));
-/// assert_eq!(i16s::read_decimal(b"n=42;", 1, 4), None);
-/// assert_eq!(i16s::read_decimal(b"n=42;", 2, 6), None);
-/// assert_eq!(i16s::read_decimal(b"n=42;", 4, 2), None);
+/// use promisebook::{i16s, NotDecimal};
+/// assert_eq!(i16s::read_decimal(b"32767"), Ok(32767));
+/// assert_eq!(i16s::read_decimal(b"32768"), Err(NotDecimal::TooLarge));
+/// assert_eq!(i16s::read_decimal(b"-32768"), Ok(-32768));
+/// assert_eq!(i16s::read_decimal(b"-32769"), Err(NotDecimal::TooLarge));
+/// assert_eq!(i16s::read_decimal(b"007"), Ok(7));
+/// assert_eq!(i16s::read_decimal(b"-0"), Ok(0));
+/// assert_eq!(i16s::read_decimal(b"+5"), Err(NotDecimal::NoNumber));
+/// assert_eq!(i16s::read_decimal(b"-"), Err(NotDecimal::NoNumber));
+/// assert_eq!(i16s::read_decimal(b""), Err(NotDecimal::NoNumber));
+/// assert_eq!(i16s::read_decimal(b"42"), Ok(42));
+/// assert_eq!(i16s::read_decimal(b"=42"), Err(NotDecimal::NoNumber));
+/// ```
+#[inline]
+pub fn read_decimal(s: &[u8]) -> Result<i16, NotDecimal> {
+    let answer = exported::i16_read_decimal(s, 0, s.len());
+    answer.ok.then_some(answer.value).ok_or_else(|| not_decimal(s, true))
+}
+
+/// The number that the part says in decimal: one figure or more from 0 to 9, with '-' in front or without. Zeros
+/// in front are read, and '+' is not. Refused with the reason where it says no number, and where that is not from
+/// -32768 to 32767. Refused, too, where `s` has no such part.
+///
+/// ```
+/// use promisebook::{i16s, NotDecimal};
+/// let s = b"n=42;";
+/// assert_eq!(i16s::read_decimal_in(s, 2..4), Some(Ok(42)));
+/// assert_eq!(i16s::read_decimal_in(s, 1..4), Some(Err(NotDecimal::NoNumber)));
+/// assert_eq!(i16s::read_decimal_in(s, 2..6), None);
+/// assert_eq!(i16s::read_decimal_in(s, 4..2), None);
 /// ```
 #[inline]
 #[must_use]
-pub fn read_decimal(s: &[u8], from: usize, to: usize) -> Option<i16> {
-    let answer = exported::i16_read_decimal(s, from, to);
+pub fn read_decimal_in(s: &[u8], part: Range<usize>) -> Option<Result<i16, NotDecimal>> {
+    Some(read_decimal(s.get(part)?))
+}
+
+/// Writes `x` in decimal at the start of `s`, with no zero in front and '-' before a negative number, changes no
+/// other byte, and answers how many bytes it has written. Refused where they do not fit.
+///
+/// ```
+/// use promisebook::i16s;
+/// let mut s = *b"......";
+/// assert_eq!(i16s::write_decimal(&mut s, 32767), Some(5));
+/// assert_eq!(s, *b"32767.");
+/// let mut s = *b".......";
+/// assert_eq!(i16s::write_decimal(&mut s, -32768), Some(6));
+/// assert_eq!(s, *b"-32768.");
+/// let mut s = *b"..";
+/// assert_eq!(i16s::write_decimal(&mut s, 10), Some(2));
+/// assert_eq!(s, *b"10");
+/// let mut s = *b".";
+/// assert_eq!(i16s::write_decimal(&mut s, 0), Some(1));
+/// assert_eq!(s, *b"0");
+/// let mut s = *b"....";
+/// assert_eq!(i16s::write_decimal(&mut s, 32767), None);
+/// assert_eq!(s, *b"....");
+/// let mut s = *b".";
+/// assert_eq!(i16s::write_decimal(&mut s, 10), None);
+/// assert_eq!(s, *b".");
+/// ```
+#[inline]
+#[must_use]
+pub fn write_decimal(s: &mut [u8], x: i16) -> Option<usize> {
+    let answer = exported::i16_write_decimal(x, s, 0);
     answer.ok.then_some(answer.value)
 }
 
-/// Writes `x` in decimal into `s` from the place `at` on, with no zero in front and '-' before a negative number,
-/// changes no other byte, and answers how many bytes it has written. Refused where they do not fit there.
+/// Writes `x` in decimal at the start of the part, with no zero in front and '-' before a negative number,
+/// changes no other byte, and answers how many bytes it has written. Refused where they do not fit. Refused, too,
+/// where `s` has no such part.
 ///
 /// ```
 /// use promisebook::i16s;
 /// let mut s = *b".......";
-/// assert_eq!(i16s::write_decimal(32767, &mut s, 1), Some(5));
+/// assert_eq!(i16s::write_decimal_in(&mut s, 1..7, 32767), Some(5));
 /// assert_eq!(s, *b".32767.");
 /// let mut s = *b"........";
-/// assert_eq!(i16s::write_decimal(-32768, &mut s, 1), Some(6));
+/// assert_eq!(i16s::write_decimal_in(&mut s, 1..8, -32768), Some(6));
 /// assert_eq!(s, *b".-32768.");
-/// let mut s = *b"..";
-/// assert_eq!(i16s::write_decimal(10, &mut s, 0), Some(2));
-/// assert_eq!(s, *b"10");
 /// let mut s = *b"...";
-/// assert_eq!(i16s::write_decimal(0, &mut s, 2), Some(1));
+/// assert_eq!(i16s::write_decimal_in(&mut s, 2..3, 0), Some(1));
 /// assert_eq!(s, *b"..0");
 /// let mut s = *b".....";
-/// assert_eq!(i16s::write_decimal(32767, &mut s, 1), None);
+/// assert_eq!(i16s::write_decimal_in(&mut s, 1..5, 32767), None);
 /// assert_eq!(s, *b".....");
 /// let mut s = *b".";
-/// assert_eq!(i16s::write_decimal(10, &mut s, 0), None);
-/// assert_eq!(s, *b".");
-/// let mut s = *b".";
-/// assert_eq!(i16s::write_decimal(7, &mut s, 2), None);
+/// assert_eq!(i16s::write_decimal_in(&mut s, 2..1, 7), None);
 /// assert_eq!(s, *b".");
 /// ```
 #[inline]
 #[must_use]
-pub fn write_decimal(x: i16, s: &mut [u8], at: usize) -> Option<usize> {
-    let answer = exported::i16_write_decimal(x, s, at);
-    answer.ok.then_some(answer.value)
+pub fn write_decimal_in(s: &mut [u8], part: Range<usize>, x: i16) -> Option<usize> {
+    write_decimal(s.get_mut(part)?, x)
+}
+
+/// The number whose 2 bytes are `s`, lowest first. Refused where `s` has another length.
+///
+/// ```
+/// use promisebook::i16s;
+/// assert_eq!(i16s::from_le_bytes(&[2, 1]), Some(258));
+/// assert_eq!(i16s::from_le_bytes(&[253, 254]), Some(-259));
+/// assert_eq!(i16s::from_le_bytes(&[1]), None);
+/// assert_eq!(i16s::from_le_bytes(&[254]), None);
+/// ```
+#[inline]
+#[must_use]
+pub fn from_le_bytes(s: &[u8]) -> Option<i16> {
+    let answer = exported::u16_from_le_bytes(s);
+    answer.ok.then_some(answer.value as i16)
+}
+
+/// The number whose 2 bytes are the part, lowest first. Refused where the part has another length. Refused, too,
+/// where `s` has no such part.
+///
+/// ```
+/// use promisebook::i16s;
+/// assert_eq!(i16s::from_le_bytes_in(&[9, 2, 1, 9], 1..3), Some(258));
+/// assert_eq!(i16s::from_le_bytes_in(&[9, 253, 254, 9], 1..3), Some(-259));
+/// assert_eq!(i16s::from_le_bytes_in(&[9, 1, 9], 1..2), None);
+/// assert_eq!(i16s::from_le_bytes_in(&[9, 254, 9], 1..4), None);
+/// ```
+#[inline]
+#[must_use]
+pub fn from_le_bytes_in(s: &[u8], part: Range<usize>) -> Option<i16> {
+    from_le_bytes(s.get(part)?)
+}
+
+/// The 2 bytes of `x`, lowest first.
+///
+/// ```
+/// use promisebook::i16s;
+/// assert_eq!(i16s::to_le_bytes(258), [2, 1]);
+/// assert_eq!(i16s::to_le_bytes(-259), [253, 254]);
+/// ```
+#[inline]
+#[must_use]
+pub fn to_le_bytes(x: i16) -> [u8; 2] {
+    let mut bytes = [0; 2];
+    exported::u16_to_le_bytes(x as u16, &mut bytes, 0);
+    bytes
+}
+
+/// Writes the 2 bytes of `x` at the start of the part, lowest first, and changes no other byte. Refused where
+/// they do not fit. Refused, too, where `s` has no such part.
+///
+/// ```
+/// use promisebook::i16s;
+/// let mut s = [0, 0, 0];
+/// assert_eq!(i16s::to_le_bytes_in(&mut s, 1..3, 258), Some(()));
+/// assert_eq!(s, [0, 2, 1]);
+/// let mut s = [0, 0, 0];
+/// assert_eq!(i16s::to_le_bytes_in(&mut s, 1..3, -259), Some(()));
+/// assert_eq!(s, [0, 253, 254]);
+/// let mut s = [0, 0, 0];
+/// assert_eq!(i16s::to_le_bytes_in(&mut s, 2..3, 258), None);
+/// assert_eq!(s, [0, 0, 0]);
+/// let mut s = [0, 0, 0];
+/// assert_eq!(i16s::to_le_bytes_in(&mut s, 2..3, -259), None);
+/// assert_eq!(s, [0, 0, 0]);
+/// ```
+#[inline]
+#[must_use]
+pub fn to_le_bytes_in(s: &mut [u8], part: Range<usize>, x: i16) -> Option<()> {
+    exported::u16_to_le_bytes(x as u16, s.get_mut(part)?, 0).then_some(())
+}
+
+/// The number whose 2 bytes are `s`, highest first. Refused where `s` has another length.
+///
+/// ```
+/// use promisebook::i16s;
+/// assert_eq!(i16s::from_be_bytes(&[1, 2]), Some(258));
+/// assert_eq!(i16s::from_be_bytes(&[254, 253]), Some(-259));
+/// assert_eq!(i16s::from_be_bytes(&[2]), None);
+/// assert_eq!(i16s::from_be_bytes(&[253]), None);
+/// ```
+#[inline]
+#[must_use]
+pub fn from_be_bytes(s: &[u8]) -> Option<i16> {
+    let answer = exported::u16_from_be_bytes(s);
+    answer.ok.then_some(answer.value as i16)
+}
+
+/// The number whose 2 bytes are the part, highest first. Refused where the part has another length. Refused, too,
+/// where `s` has no such part.
+///
+/// ```
+/// use promisebook::i16s;
+/// assert_eq!(i16s::from_be_bytes_in(&[9, 1, 2, 9], 1..3), Some(258));
+/// assert_eq!(i16s::from_be_bytes_in(&[9, 254, 253, 9], 1..3), Some(-259));
+/// assert_eq!(i16s::from_be_bytes_in(&[9, 2, 9], 1..2), None);
+/// assert_eq!(i16s::from_be_bytes_in(&[9, 253, 9], 1..4), None);
+/// ```
+#[inline]
+#[must_use]
+pub fn from_be_bytes_in(s: &[u8], part: Range<usize>) -> Option<i16> {
+    from_be_bytes(s.get(part)?)
+}
+
+/// The 2 bytes of `x`, highest first.
+///
+/// ```
+/// use promisebook::i16s;
+/// assert_eq!(i16s::to_be_bytes(258), [1, 2]);
+/// assert_eq!(i16s::to_be_bytes(-259), [254, 253]);
+/// ```
+#[inline]
+#[must_use]
+pub fn to_be_bytes(x: i16) -> [u8; 2] {
+    let mut bytes = [0; 2];
+    exported::u16_to_be_bytes(x as u16, &mut bytes, 0);
+    bytes
+}
+
+/// Writes the 2 bytes of `x` at the start of the part, highest first, and changes no other byte. Refused where
+/// they do not fit. Refused, too, where `s` has no such part.
+///
+/// ```
+/// use promisebook::i16s;
+/// let mut s = [0, 0, 0];
+/// assert_eq!(i16s::to_be_bytes_in(&mut s, 1..3, 258), Some(()));
+/// assert_eq!(s, [0, 1, 2]);
+/// let mut s = [0, 0, 0];
+/// assert_eq!(i16s::to_be_bytes_in(&mut s, 1..3, -259), Some(()));
+/// assert_eq!(s, [0, 254, 253]);
+/// let mut s = [0, 0, 0];
+/// assert_eq!(i16s::to_be_bytes_in(&mut s, 2..3, 258), None);
+/// assert_eq!(s, [0, 0, 0]);
+/// let mut s = [0, 0, 0];
+/// assert_eq!(i16s::to_be_bytes_in(&mut s, 2..3, -259), None);
+/// assert_eq!(s, [0, 0, 0]);
+/// ```
+#[inline]
+#[must_use]
+pub fn to_be_bytes_in(s: &mut [u8], part: Range<usize>, x: i16) -> Option<()> {
+    exported::u16_to_be_bytes(x as u16, s.get_mut(part)?, 0).then_some(())
 }

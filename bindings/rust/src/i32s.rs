@@ -2,7 +2,9 @@
 
 use crate::exported;
 use crate::ordering;
+use crate::{not_decimal, NotDecimal};
 use core::cmp::Ordering;
+use core::ops::Range;
 
 /// The sum `x + y`, wrapped: the signed number of 32 bits that differs from it by a multiple of 2^32.
 ///
@@ -357,63 +359,245 @@ pub fn partial_cmp(x: i32, y: i32) -> Option<Ordering> {
     answer.ok.then_some(ordering(answer.value))
 }
 
-/// The number that the bytes of `s` from `from` up to and without `to` say in decimal: one figure or more from 0
-/// to 9, with '-' in front or without. Zeros in front are read, and '+' is not. Refused where they say no number,
-/// where it is not from -2147483648 to 2147483647, and where `to` is past the end.
+/// The number that `s` says in decimal: one figure or more from 0 to 9, with '-' in front or without. Zeros in
+/// front are read, and '+' is not. Refused with the reason where it says no number, and where that is not from
+/// -2147483648 to 2147483647.
 ///
 /// ```
-/// use promisebook::i32s;
-/// assert_eq!(i32s::read_decimal(b"2147483647", 0, 10), Some(2147483647));
-/// assert_eq!(i32s::read_decimal(b"2147483648", 0, 10), None);
-/// assert_eq!(i32s::read_decimal(b"-2147483648", 0, 11), Some(-2147483648));
-/// assert_eq!(i32s::read_decimal(b"-2147483649", 0, 11), None);
-/// assert_eq!(i32s::read_decimal(b"007", 0, 3), Some(7));
-/// assert_eq!(i32s::read_decimal(b"-0", 0, 2), Some(0));
-/// assert_eq!(i32s::read_decimal(b"+5", 0, 2), None);
-/// assert_eq!(i32s::read_decimal(b"-", 0, 1), None);
-/// assert_eq!(i32s::read_decimal(b"", 0, 0), None);
-/// assert_eq!(i32s::read_decimal(b"n=42;", 2, 4), Some(42));
-/// assert_eq!(i32s::read_decimal(b"n=42;", 1, 4), None);
-/// assert_eq!(i32s::read_decimal(b"n=42;", 2, 6), None);
-/// assert_eq!(i32s::read_decimal(b"n=42;", 4, 2), None);
+/// use promisebook::{i32s, NotDecimal};
+/// assert_eq!(i32s::read_decimal(b"2147483647"), Ok(2147483647));
+/// assert_eq!(i32s::read_decimal(b"2147483648"), Err(NotDecimal::TooLarge));
+/// assert_eq!(i32s::read_decimal(b"-2147483648"), Ok(-2147483648));
+/// assert_eq!(i32s::read_decimal(b"-2147483649"), Err(NotDecimal::TooLarge));
+/// assert_eq!(i32s::read_decimal(b"007"), Ok(7));
+/// assert_eq!(i32s::read_decimal(b"-0"), Ok(0));
+/// assert_eq!(i32s::read_decimal(b"+5"), Err(NotDecimal::NoNumber));
+/// assert_eq!(i32s::read_decimal(b"-"), Err(NotDecimal::NoNumber));
+/// assert_eq!(i32s::read_decimal(b""), Err(NotDecimal::NoNumber));
+/// assert_eq!(i32s::read_decimal(b"42"), Ok(42));
+/// assert_eq!(i32s::read_decimal(b"=42"), Err(NotDecimal::NoNumber));
+/// ```
+#[inline]
+pub fn read_decimal(s: &[u8]) -> Result<i32, NotDecimal> {
+    let answer = exported::i32_read_decimal(s, 0, s.len());
+    answer.ok.then_some(answer.value).ok_or_else(|| not_decimal(s, true))
+}
+
+/// The number that the part says in decimal: one figure or more from 0 to 9, with '-' in front or without. Zeros
+/// in front are read, and '+' is not. Refused with the reason where it says no number, and where that is not from
+/// -2147483648 to 2147483647. Refused, too, where `s` has no such part.
+///
+/// ```
+/// use promisebook::{i32s, NotDecimal};
+/// let s = b"n=42;";
+/// assert_eq!(i32s::read_decimal_in(s, 2..4), Some(Ok(42)));
+/// assert_eq!(i32s::read_decimal_in(s, 1..4), Some(Err(NotDecimal::NoNumber)));
+/// assert_eq!(i32s::read_decimal_in(s, 2..6), None);
+/// assert_eq!(i32s::read_decimal_in(s, 4..2), None);
 /// ```
 #[inline]
 #[must_use]
-pub fn read_decimal(s: &[u8], from: usize, to: usize) -> Option<i32> {
-    let answer = exported::i32_read_decimal(s, from, to);
+pub fn read_decimal_in(s: &[u8], part: Range<usize>) -> Option<Result<i32, NotDecimal>> {
+    Some(read_decimal(s.get(part)?))
+}
+
+/// Writes `x` in decimal at the start of `s`, with no zero in front and '-' before a negative number, changes no
+/// other byte, and answers how many bytes it has written. Refused where they do not fit.
+///
+/// ```
+/// use promisebook::i32s;
+/// let mut s = *b"...........";
+/// assert_eq!(i32s::write_decimal(&mut s, 2147483647), Some(10));
+/// assert_eq!(s, *b"2147483647.");
+/// let mut s = *b"............";
+/// assert_eq!(i32s::write_decimal(&mut s, -2147483648), Some(11));
+/// assert_eq!(s, *b"-2147483648.");
+/// let mut s = *b"..";
+/// assert_eq!(i32s::write_decimal(&mut s, 10), Some(2));
+/// assert_eq!(s, *b"10");
+/// let mut s = *b".";
+/// assert_eq!(i32s::write_decimal(&mut s, 0), Some(1));
+/// assert_eq!(s, *b"0");
+/// let mut s = *b".........";
+/// assert_eq!(i32s::write_decimal(&mut s, 2147483647), None);
+/// assert_eq!(s, *b".........");
+/// let mut s = *b".";
+/// assert_eq!(i32s::write_decimal(&mut s, 10), None);
+/// assert_eq!(s, *b".");
+/// ```
+#[inline]
+#[must_use]
+pub fn write_decimal(s: &mut [u8], x: i32) -> Option<usize> {
+    let answer = exported::i32_write_decimal(x, s, 0);
     answer.ok.then_some(answer.value)
 }
 
-/// Writes `x` in decimal into `s` from the place `at` on, with no zero in front and '-' before a negative number,
-/// changes no other byte, and answers how many bytes it has written. Refused where they do not fit there.
+/// Writes `x` in decimal at the start of the part, with no zero in front and '-' before a negative number,
+/// changes no other byte, and answers how many bytes it has written. Refused where they do not fit. Refused, too,
+/// where `s` has no such part.
 ///
 /// ```
 /// use promisebook::i32s;
 /// let mut s = *b"............";
-/// assert_eq!(i32s::write_decimal(2147483647, &mut s, 1), Some(10));
+/// assert_eq!(i32s::write_decimal_in(&mut s, 1..12, 2147483647), Some(10));
 /// assert_eq!(s, *b".2147483647.");
 /// let mut s = *b".............";
-/// assert_eq!(i32s::write_decimal(-2147483648, &mut s, 1), Some(11));
+/// assert_eq!(i32s::write_decimal_in(&mut s, 1..13, -2147483648), Some(11));
 /// assert_eq!(s, *b".-2147483648.");
-/// let mut s = *b"..";
-/// assert_eq!(i32s::write_decimal(10, &mut s, 0), Some(2));
-/// assert_eq!(s, *b"10");
 /// let mut s = *b"...";
-/// assert_eq!(i32s::write_decimal(0, &mut s, 2), Some(1));
+/// assert_eq!(i32s::write_decimal_in(&mut s, 2..3, 0), Some(1));
 /// assert_eq!(s, *b"..0");
 /// let mut s = *b"..........";
-/// assert_eq!(i32s::write_decimal(2147483647, &mut s, 1), None);
+/// assert_eq!(i32s::write_decimal_in(&mut s, 1..10, 2147483647), None);
 /// assert_eq!(s, *b"..........");
 /// let mut s = *b".";
-/// assert_eq!(i32s::write_decimal(10, &mut s, 0), None);
-/// assert_eq!(s, *b".");
-/// let mut s = *b".";
-/// assert_eq!(i32s::write_decimal(7, &mut s, 2), None);
+/// assert_eq!(i32s::write_decimal_in(&mut s, 2..1, 7), None);
 /// assert_eq!(s, *b".");
 /// ```
 #[inline]
 #[must_use]
-pub fn write_decimal(x: i32, s: &mut [u8], at: usize) -> Option<usize> {
-    let answer = exported::i32_write_decimal(x, s, at);
-    answer.ok.then_some(answer.value)
+pub fn write_decimal_in(s: &mut [u8], part: Range<usize>, x: i32) -> Option<usize> {
+    write_decimal(s.get_mut(part)?, x)
+}
+
+/// The number whose 4 bytes are `s`, lowest first. Refused where `s` has another length.
+///
+/// ```
+/// use promisebook::i32s;
+/// assert_eq!(i32s::from_le_bytes(&[4, 3, 2, 1]), Some(16909060));
+/// assert_eq!(i32s::from_le_bytes(&[251, 252, 253, 254]), Some(-16909061));
+/// assert_eq!(i32s::from_le_bytes(&[3, 2, 1]), None);
+/// assert_eq!(i32s::from_le_bytes(&[252, 253, 254]), None);
+/// ```
+#[inline]
+#[must_use]
+pub fn from_le_bytes(s: &[u8]) -> Option<i32> {
+    let answer = exported::u32_from_le_bytes(s);
+    answer.ok.then_some(answer.value as i32)
+}
+
+/// The number whose 4 bytes are the part, lowest first. Refused where the part has another length. Refused, too,
+/// where `s` has no such part.
+///
+/// ```
+/// use promisebook::i32s;
+/// assert_eq!(i32s::from_le_bytes_in(&[9, 4, 3, 2, 1, 9], 1..5), Some(16909060));
+/// assert_eq!(i32s::from_le_bytes_in(&[9, 251, 252, 253, 254, 9], 1..5), Some(-16909061));
+/// assert_eq!(i32s::from_le_bytes_in(&[9, 3, 2, 1, 9], 1..4), None);
+/// assert_eq!(i32s::from_le_bytes_in(&[9, 252, 253, 254, 9], 1..6), None);
+/// ```
+#[inline]
+#[must_use]
+pub fn from_le_bytes_in(s: &[u8], part: Range<usize>) -> Option<i32> {
+    from_le_bytes(s.get(part)?)
+}
+
+/// The 4 bytes of `x`, lowest first.
+///
+/// ```
+/// use promisebook::i32s;
+/// assert_eq!(i32s::to_le_bytes(16909060), [4, 3, 2, 1]);
+/// assert_eq!(i32s::to_le_bytes(-16909061), [251, 252, 253, 254]);
+/// ```
+#[inline]
+#[must_use]
+pub fn to_le_bytes(x: i32) -> [u8; 4] {
+    let mut bytes = [0; 4];
+    exported::u32_to_le_bytes(x as u32, &mut bytes, 0);
+    bytes
+}
+
+/// Writes the 4 bytes of `x` at the start of the part, lowest first, and changes no other byte. Refused where
+/// they do not fit. Refused, too, where `s` has no such part.
+///
+/// ```
+/// use promisebook::i32s;
+/// let mut s = [0, 0, 0, 0, 0];
+/// assert_eq!(i32s::to_le_bytes_in(&mut s, 1..5, 16909060), Some(()));
+/// assert_eq!(s, [0, 4, 3, 2, 1]);
+/// let mut s = [0, 0, 0, 0, 0];
+/// assert_eq!(i32s::to_le_bytes_in(&mut s, 1..5, -16909061), Some(()));
+/// assert_eq!(s, [0, 251, 252, 253, 254]);
+/// let mut s = [0, 0, 0, 0, 0];
+/// assert_eq!(i32s::to_le_bytes_in(&mut s, 2..5, 16909060), None);
+/// assert_eq!(s, [0, 0, 0, 0, 0]);
+/// let mut s = [0, 0, 0, 0, 0];
+/// assert_eq!(i32s::to_le_bytes_in(&mut s, 2..5, -16909061), None);
+/// assert_eq!(s, [0, 0, 0, 0, 0]);
+/// ```
+#[inline]
+#[must_use]
+pub fn to_le_bytes_in(s: &mut [u8], part: Range<usize>, x: i32) -> Option<()> {
+    exported::u32_to_le_bytes(x as u32, s.get_mut(part)?, 0).then_some(())
+}
+
+/// The number whose 4 bytes are `s`, highest first. Refused where `s` has another length.
+///
+/// ```
+/// use promisebook::i32s;
+/// assert_eq!(i32s::from_be_bytes(&[1, 2, 3, 4]), Some(16909060));
+/// assert_eq!(i32s::from_be_bytes(&[254, 253, 252, 251]), Some(-16909061));
+/// assert_eq!(i32s::from_be_bytes(&[2, 3, 4]), None);
+/// assert_eq!(i32s::from_be_bytes(&[253, 252, 251]), None);
+/// ```
+#[inline]
+#[must_use]
+pub fn from_be_bytes(s: &[u8]) -> Option<i32> {
+    let answer = exported::u32_from_be_bytes(s);
+    answer.ok.then_some(answer.value as i32)
+}
+
+/// The number whose 4 bytes are the part, highest first. Refused where the part has another length. Refused, too,
+/// where `s` has no such part.
+///
+/// ```
+/// use promisebook::i32s;
+/// assert_eq!(i32s::from_be_bytes_in(&[9, 1, 2, 3, 4, 9], 1..5), Some(16909060));
+/// assert_eq!(i32s::from_be_bytes_in(&[9, 254, 253, 252, 251, 9], 1..5), Some(-16909061));
+/// assert_eq!(i32s::from_be_bytes_in(&[9, 2, 3, 4, 9], 1..4), None);
+/// assert_eq!(i32s::from_be_bytes_in(&[9, 253, 252, 251, 9], 1..6), None);
+/// ```
+#[inline]
+#[must_use]
+pub fn from_be_bytes_in(s: &[u8], part: Range<usize>) -> Option<i32> {
+    from_be_bytes(s.get(part)?)
+}
+
+/// The 4 bytes of `x`, highest first.
+///
+/// ```
+/// use promisebook::i32s;
+/// assert_eq!(i32s::to_be_bytes(16909060), [1, 2, 3, 4]);
+/// assert_eq!(i32s::to_be_bytes(-16909061), [254, 253, 252, 251]);
+/// ```
+#[inline]
+#[must_use]
+pub fn to_be_bytes(x: i32) -> [u8; 4] {
+    let mut bytes = [0; 4];
+    exported::u32_to_be_bytes(x as u32, &mut bytes, 0);
+    bytes
+}
+
+/// Writes the 4 bytes of `x` at the start of the part, highest first, and changes no other byte. Refused where
+/// they do not fit. Refused, too, where `s` has no such part.
+///
+/// ```
+/// use promisebook::i32s;
+/// let mut s = [0, 0, 0, 0, 0];
+/// assert_eq!(i32s::to_be_bytes_in(&mut s, 1..5, 16909060), Some(()));
+/// assert_eq!(s, [0, 1, 2, 3, 4]);
+/// let mut s = [0, 0, 0, 0, 0];
+/// assert_eq!(i32s::to_be_bytes_in(&mut s, 1..5, -16909061), Some(()));
+/// assert_eq!(s, [0, 254, 253, 252, 251]);
+/// let mut s = [0, 0, 0, 0, 0];
+/// assert_eq!(i32s::to_be_bytes_in(&mut s, 2..5, 16909060), None);
+/// assert_eq!(s, [0, 0, 0, 0, 0]);
+/// let mut s = [0, 0, 0, 0, 0];
+/// assert_eq!(i32s::to_be_bytes_in(&mut s, 2..5, -16909061), None);
+/// assert_eq!(s, [0, 0, 0, 0, 0]);
+/// ```
+#[inline]
+#[must_use]
+pub fn to_be_bytes_in(s: &mut [u8], part: Range<usize>, x: i32) -> Option<()> {
+    exported::u32_to_be_bytes(x as u32, s.get_mut(part)?, 0).then_some(())
 }

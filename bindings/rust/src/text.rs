@@ -1,19 +1,13 @@
 //! Text: bytes that are valid UTF-8 or not, and scalar values, the numbers up to 0x10ffff without 0xd800 to 0xdfff.
 
 use crate::exported;
+use core::ops::Range;
 
 /// A scalar value, and the length of its form.
 #[derive(Clone, Copy, Debug, PartialEq, Eq)]
 pub struct Read {
     pub value: u32,
     pub length: usize,
-}
-
-/// The two parts of a text: up to `middle`, and from there to `end`.
-#[derive(Clone, Copy, Debug, PartialEq, Eq)]
-pub struct Split {
-    pub middle: usize,
-    pub end: usize,
 }
 
 /// How many bytes the UTF-8 form of `c` has. Refused where `c` is no scalar value.
@@ -46,59 +40,111 @@ pub fn is_white_space(c: u32) -> bool {
     exported::pb_text_is_white_space(c)
 }
 
-/// Writes the UTF-8 form of `c` into `out` from the place `at` on, changes no other byte, and answers how many
-/// bytes it has. Refused where `c` is no scalar value or its form does not fit there.
+/// Writes the UTF-8 form of `c` at the start of `out`, changes no other byte, and answers how many bytes it has.
+/// Refused where `c` is no scalar value or its form does not fit.
 ///
 /// ```
 /// use promisebook::text;
+/// let mut out = [0x00, 0x00, 0x00];
+/// assert_eq!(text::write(&mut out, 0x20ac), Some(3));
+/// assert_eq!(out, [0xe2, 0x82, 0xac]);
+/// let mut out = [0x00, 0x00];
+/// assert_eq!(text::write(&mut out, 0x20ac), None);
+/// assert_eq!(out, [0x00, 0x00]);
 /// let mut out = [0x00, 0x00, 0x00, 0x00];
-/// assert_eq!(text::write(&mut out, 1, 0x20ac), Some(3));
-/// assert_eq!(out, [0x00, 0xe2, 0x82, 0xac]);
-/// let mut out = [0x00, 0x00, 0x00, 0x00];
-/// assert_eq!(text::write(&mut out, 2, 0x20ac), None);
-/// assert_eq!(out, [0x00, 0x00, 0x00, 0x00]);
-/// let mut out = [0x00, 0x00, 0x00, 0x00];
-/// assert_eq!(text::write(&mut out, 0, 0xdfff), None);
+/// assert_eq!(text::write(&mut out, 0xdfff), None);
 /// assert_eq!(out, [0x00, 0x00, 0x00, 0x00]);
 /// ```
 #[inline]
 #[must_use]
-pub fn write(out: &mut [u8], at: usize, c: u32) -> Option<usize> {
-    let answer = exported::text_write(out, at, c);
+pub fn write(out: &mut [u8], c: u32) -> Option<usize> {
+    let answer = exported::text_write(out, 0, c);
     answer.ok.then_some(answer.value)
 }
 
-/// The scalar value whose form the part from `from` up to and without `to` begins with, and how many bytes the
-/// form has. Refused where there is no such part, or no form begins it.
+/// Writes the UTF-8 form of `c` at the start of the part, changes no other byte, and answers how many bytes it
+/// has. Refused where `c` is no scalar value or its form does not fit. Refused, too, where `out` has no such
+/// part.
 ///
 /// ```
 /// use promisebook::text;
-/// let s = "Aé€𐍈".as_bytes();
-/// assert_eq!(text::read_first(s, 3, 10), Some(text::Read { value: 0x20ac, length: 3 }));
-/// assert_eq!(text::read_first(s, 2, 10), None);
-/// assert_eq!(text::read_first(s, 3, 5), None);
+/// let mut out = [0x00, 0x00, 0x00, 0x00];
+/// assert_eq!(text::write_in(&mut out, 1..4, 0x20ac), Some(3));
+/// assert_eq!(out, [0x00, 0xe2, 0x82, 0xac]);
+/// let mut out = [0x00, 0x00, 0x00, 0x00];
+/// assert_eq!(text::write_in(&mut out, 2..4, 0x20ac), None);
+/// assert_eq!(out, [0x00, 0x00, 0x00, 0x00]);
+/// let mut out = [0x00, 0x00, 0x00, 0x00];
+/// assert_eq!(text::write_in(&mut out, 0..4, 0xdfff), None);
+/// assert_eq!(out, [0x00, 0x00, 0x00, 0x00]);
 /// ```
 #[inline]
 #[must_use]
-pub fn read_first(s: &[u8], from: usize, to: usize) -> Option<Read> {
-    let answer = exported::text_read_first(s, from, to);
+pub fn write_in(out: &mut [u8], part: Range<usize>, c: u32) -> Option<usize> {
+    write(out.get_mut(part)?, c)
+}
+
+/// The scalar value whose form `s` begins with, and how many bytes the form has. Refused where no form begins it.
+///
+/// ```
+/// use promisebook::text;
+/// assert_eq!(text::read_first("€𐍈".as_bytes()), Some(text::Read { value: 0x20ac, length: 3 }));
+/// assert_eq!(text::read_first(&[0xa9, 0xe2, 0x82, 0xac, 0xf0, 0x90, 0x8d, 0x88]), None);
+/// assert_eq!(text::read_first(&[0xe2, 0x82]), None);
+/// ```
+#[inline]
+#[must_use]
+pub fn read_first(s: &[u8]) -> Option<Read> {
+    let answer = exported::text_read_first(s, 0, s.len());
     answer.ok.then_some(Read { value: answer.value, length: answer.length })
 }
 
-/// The scalar value whose form the part from `from` up to and without `to` ends with, and how many bytes the form
-/// has. Refused where there is no such part, or no form ends it.
+/// The scalar value whose form the part begins with, and how many bytes the form has. Refused where no form
+/// begins it. Refused, too, where `s` has no such part.
 ///
 /// ```
 /// use promisebook::text;
 /// let s = "Aé€𐍈".as_bytes();
-/// assert_eq!(text::read_last(s, 0, 10), Some(text::Read { value: 0x10348, length: 4 }));
-/// assert_eq!(text::read_last(s, 0, 3), Some(text::Read { value: 0xe9, length: 2 }));
-/// assert_eq!(text::read_last(s, 0, 5), None);
+/// assert_eq!(text::read_first_in(s, 3..10), Some(text::Read { value: 0x20ac, length: 3 }));
+/// assert_eq!(text::read_first_in(s, 2..10), None);
+/// assert_eq!(text::read_first_in(s, 3..5), None);
 /// ```
 #[inline]
 #[must_use]
-pub fn read_last(s: &[u8], from: usize, to: usize) -> Option<Read> {
-    let answer = exported::text_read_last(s, from, to);
+pub fn read_first_in(s: &[u8], part: Range<usize>) -> Option<Read> {
+    let answer = exported::text_read_first(s, part.start, part.end);
+    answer.ok.then_some(Read { value: answer.value, length: answer.length })
+}
+
+/// The scalar value whose form `s` ends with, and how many bytes the form has. Refused where no form ends it.
+///
+/// ```
+/// use promisebook::text;
+/// assert_eq!(text::read_last("Aé€𐍈".as_bytes()), Some(text::Read { value: 0x10348, length: 4 }));
+/// assert_eq!(text::read_last("Aé".as_bytes()), Some(text::Read { value: 0xe9, length: 2 }));
+/// assert_eq!(text::read_last(&[0x41, 0xc3, 0xa9, 0xe2, 0x82]), None);
+/// ```
+#[inline]
+#[must_use]
+pub fn read_last(s: &[u8]) -> Option<Read> {
+    let answer = exported::text_read_last(s, 0, s.len());
+    answer.ok.then_some(Read { value: answer.value, length: answer.length })
+}
+
+/// The scalar value whose form the part ends with, and how many bytes the form has. Refused where no form ends
+/// it. Refused, too, where `s` has no such part.
+///
+/// ```
+/// use promisebook::text;
+/// let s = "Aé€𐍈".as_bytes();
+/// assert_eq!(text::read_last_in(s, 0..10), Some(text::Read { value: 0x10348, length: 4 }));
+/// assert_eq!(text::read_last_in(s, 0..3), Some(text::Read { value: 0xe9, length: 2 }));
+/// assert_eq!(text::read_last_in(s, 0..5), None);
+/// ```
+#[inline]
+#[must_use]
+pub fn read_last_in(s: &[u8], part: Range<usize>) -> Option<Read> {
+    let answer = exported::text_read_last(s, part.start, part.end);
     answer.ok.then_some(Read { value: answer.value, length: answer.length })
 }
 
@@ -118,7 +164,24 @@ pub fn valid(s: &[u8]) -> bool {
     exported::text_valid(s)
 }
 
-/// How many scalar values the text `s` has. Refused where it is not valid UTF-8.
+/// Whether the part is valid UTF-8. Refused where `s` has no such part.
+///
+/// ```
+/// use promisebook::text;
+/// assert_eq!(text::valid_in("(Aé€𐍈)".as_bytes(), 1..11), Some(true));
+/// assert_eq!(text::valid_in(&[0x28, 0xf4, 0x8f, 0xbf, 0xbf, 0x29], 1..5), Some(true));
+/// assert_eq!(text::valid_in(&[0x28, 0xc0, 0x80, 0x29], 1..3), Some(false));
+/// assert_eq!(text::valid_in(&[0x28, 0xed, 0xa0, 0x80, 0x29], 1..4), Some(false));
+/// assert_eq!(text::valid_in(&[0x28, 0xf0, 0x9f, 0x98, 0x29], 1..4), Some(false));
+/// assert_eq!(text::valid_in(&[0x28, 0xf0, 0x9f, 0x98, 0x29], 1..6), None);
+/// ```
+#[inline]
+#[must_use]
+pub fn valid_in(s: &[u8], part: Range<usize>) -> Option<bool> {
+    Some(valid(s.get(part)?))
+}
+
+/// How many scalar values `s` has as text. Refused where it is not valid UTF-8.
 ///
 /// ```
 /// use promisebook::text;
@@ -132,8 +195,23 @@ pub fn count(s: &[u8]) -> Option<usize> {
     answer.ok.then_some(answer.value)
 }
 
-/// Whether the place `at` of the text `s` lies between two scalar values or at an end. Refused where `s` is not
-/// valid UTF-8.
+/// How many scalar values the part has as text. Refused where it is not valid UTF-8. Refused, too, where `s` has
+/// no such part.
+///
+/// ```
+/// use promisebook::text;
+/// assert_eq!(text::count_in("(Aé€𐍈)".as_bytes(), 1..11), Some(4));
+/// assert_eq!(text::count_in(&[0x28, 0xe2, 0x82, 0x29], 1..3), None);
+/// assert_eq!(text::count_in(&[0x28, 0xe2, 0x82, 0x29], 1..5), None);
+/// ```
+#[inline]
+#[must_use]
+pub fn count_in(s: &[u8], part: Range<usize>) -> Option<usize> {
+    count(s.get(part)?)
+}
+
+/// Whether the place `at` of `s`, counted from its start, lies between two scalar values or at an end. Refused
+/// where it is not valid UTF-8.
 ///
 /// ```
 /// use promisebook::text;
@@ -149,20 +227,55 @@ pub fn is_boundary(s: &[u8], at: usize) -> Option<bool> {
     answer.ok.then_some(answer.value)
 }
 
-/// Splits the text `s` at `at` into two texts, up to `middle` and from there to `end`. Refused where `s` is not
-/// valid UTF-8 or `at` is no boundary.
+/// Whether the place `at` of the part, counted from its start, lies between two scalar values or at an end.
+/// Refused where it is not valid UTF-8. Refused, too, where `s` has no such part.
+///
+/// ```
+/// use promisebook::text;
+/// assert_eq!(text::is_boundary_in("(Aé€𐍈)".as_bytes(), 1..11, 3), Some(true));
+/// assert_eq!(text::is_boundary_in("(Aé€𐍈)".as_bytes(), 1..11, 8), Some(false));
+/// assert_eq!(text::is_boundary_in("(Aé€𐍈)".as_bytes(), 1..11, 11), Some(false));
+/// assert_eq!(text::is_boundary_in(&[0x28, 0xff, 0x29], 1..2, 0), None);
+/// assert_eq!(text::is_boundary_in(&[0x28, 0xff, 0x29], 1..4, 0), None);
+/// ```
+#[inline]
+#[must_use]
+pub fn is_boundary_in(s: &[u8], part: Range<usize>, at: usize) -> Option<bool> {
+    is_boundary(s.get(part)?, at)
+}
+
+/// Splits `s` at the place `at`, counted from its start, into two texts. Refused where it is not valid UTF-8 or
+/// `at` is no boundary.
 ///
 /// ```
 /// use promisebook::text;
 /// let s = "Aé€𐍈".as_bytes();
-/// assert_eq!(text::split_at(s, 3), Some(text::Split { middle: 3, end: 10 }));
+/// assert_eq!(text::split_at(s, 3), Some(("Aé".as_bytes(), "€𐍈".as_bytes())));
 /// assert_eq!(text::split_at(s, 4), None);
 /// ```
 #[inline]
 #[must_use]
-pub fn split_at(s: &[u8], at: usize) -> Option<Split> {
+pub fn split_at(s: &[u8], at: usize) -> Option<(&[u8], &[u8])> {
     let answer = exported::text_split_at(s, at);
-    answer.ok.then_some(Split { middle: answer.middle, end: answer.end })
+    answer.ok.then_some((s.get(..answer.middle)?, s.get(answer.middle..answer.end)?))
+}
+
+/// Splits the part at the place `at`, counted from its start, into two texts. Refused where it is not valid UTF-8
+/// or `at` is no boundary. Refused, too, where `s` has no such part. The places answered are counted from the
+/// start of `s`.
+///
+/// ```
+/// use promisebook::text;
+/// let s = "(Aé€𐍈)".as_bytes();
+/// assert_eq!(text::split_at_in(s, 1..11, 3), Some((1..4, 4..11)));
+/// assert_eq!(text::split_at_in(s, 1..11, 4), None);
+/// assert_eq!(text::split_at_in(s, 1..13, 4), None);
+/// ```
+#[inline]
+#[must_use]
+pub fn split_at_in(s: &[u8], part: Range<usize>, at: usize) -> Option<(Range<usize>, Range<usize>)> {
+    let answer = exported::text_split_at(s.get(part.clone())?, at);
+    answer.ok.then_some((part.start..part.start + answer.middle, part.start + answer.middle..part.start + answer.end))
 }
 
 /// Whether every byte of `s` is ASCII, at most 0x7f.
@@ -179,7 +292,22 @@ pub fn is_ascii(s: &[u8]) -> bool {
     exported::text_is_ascii(s)
 }
 
-/// The length of the longest beginning of `s` that is valid UTF-8: of all of `s` where that is valid.
+/// Whether every byte of the part is ASCII, at most 0x7f. Refused where `s` has no such part.
+///
+/// ```
+/// use promisebook::text;
+/// assert_eq!(text::is_ascii_in("(plain)".as_bytes(), 1..6), Some(true));
+/// assert_eq!(text::is_ascii_in("(Aé€𐍈)".as_bytes(), 1..11), Some(false));
+/// assert_eq!(text::is_ascii_in("()".as_bytes(), 1..1), Some(true));
+/// assert_eq!(text::is_ascii_in("()".as_bytes(), 1..3), None);
+/// ```
+#[inline]
+#[must_use]
+pub fn is_ascii_in(s: &[u8], part: Range<usize>) -> Option<bool> {
+    Some(is_ascii(s.get(part)?))
+}
+
+/// The length of the longest beginning of `s` that is valid UTF-8: of all of it where that is valid.
 ///
 /// ```
 /// use promisebook::text;
@@ -193,4 +321,50 @@ pub fn is_ascii(s: &[u8]) -> bool {
 #[must_use]
 pub fn valid_up_to(s: &[u8]) -> usize {
     exported::text_valid_up_to(s)
+}
+
+/// The length of the longest beginning of the part that is valid UTF-8: of all of it where that is valid. Refused
+/// where `s` has no such part.
+///
+/// ```
+/// use promisebook::text;
+/// assert_eq!(text::valid_up_to_in("(Aé€𐍈)".as_bytes(), 1..11), Some(10));
+/// assert_eq!(text::valid_up_to_in(&[0x28, 0x41, 0xc3, 0xa9, 0xe2, 0x82, 0xac, 0xf0, 0x90, 0x8d, 0x29], 1..10), Some(6));
+/// assert_eq!(text::valid_up_to_in(&[0x28, 0x61, 0x62, 0xff, 0x29], 1..4), Some(2));
+/// assert_eq!(text::valid_up_to_in(&[0x28, 0x80, 0x29], 1..2), Some(0));
+/// assert_eq!(text::valid_up_to_in("()".as_bytes(), 1..1), Some(0));
+/// assert_eq!(text::valid_up_to_in("()".as_bytes(), 1..3), None);
+/// ```
+#[inline]
+#[must_use]
+pub fn valid_up_to_in(s: &[u8], part: Range<usize>) -> Option<usize> {
+    Some(valid_up_to(s.get(part)?))
+}
+
+/// `s` as a str, where it is valid UTF-8; else refused. It is validated once, by [`valid`], and not again.
+///
+/// ```
+/// use promisebook::text;
+/// assert_eq!(text::as_str(&[0x41, 0xc3, 0xa9]), Some("Aé"));
+/// assert_eq!(text::as_str(&[0x41, 0xc3]), None);
+/// ```
+#[inline]
+#[must_use]
+pub fn as_str(s: &[u8]) -> Option<&str> {
+    exported::text_as_str(s)
+}
+
+/// The part as a str, where it is valid UTF-8; else refused. Refused, too, where `s` has no such part.
+///
+/// ```
+/// use promisebook::text;
+/// let s = &[0xff, 0x41, 0xc3, 0xa9];
+/// assert_eq!(text::as_str_in(s, 1..4), Some("Aé"));
+/// assert_eq!(text::as_str_in(s, 0..4), None);
+/// assert_eq!(text::as_str_in(s, 1..5), None);
+/// ```
+#[inline]
+#[must_use]
+pub fn as_str_in(s: &[u8], part: Range<usize>) -> Option<&str> {
+    as_str(s.get(part)?)
 }

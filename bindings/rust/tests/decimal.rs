@@ -3,10 +3,21 @@
 #[macro_use]
 mod beside;
 
+use promisebook::NotDecimal;
+use std::num::{IntErrorKind, ParseIntError};
 use std::str::{from_utf8, FromStr};
 
-fn parsed<T: FromStr>(text: &[u8]) -> Option<T> {
-    from_utf8(text).ok().filter(|text| !text.starts_with('+'))?.parse().ok()
+fn parsed<T: FromStr<Err = ParseIntError>>(text: &[u8]) -> Result<T, NotDecimal> {
+    let text = from_utf8(text).ok().filter(|text| !text.starts_with('+')).ok_or(NotDecimal::NoNumber)?;
+    text.parse().map_err(|error: ParseIntError| match error.kind() {
+        IntErrorKind::PosOverflow | IntErrorKind::NegOverflow if all_figures(text) => NotDecimal::TooLarge,
+        _ => NotDecimal::NoNumber,
+    })
+}
+
+/// `parse` stops where the number no longer fits, and does not look at what stands behind.
+fn all_figures(text: &str) -> bool {
+    text.trim_start_matches('-').bytes().all(|byte| byte.is_ascii_digit())
 }
 
 /// A number's text with zeros in front.
@@ -22,7 +33,7 @@ macro_rules! decimal {
     ($name:ident, $module:ident, $type:ident, $numbers:expr) => {
         mod $name {
             use super::{beside, padded, parsed, WRONG_AND_RIGHT};
-            use promisebook::$module::{read_decimal, write_decimal};
+            use promisebook::$module::{read_decimal, read_decimal_in, write_decimal, write_decimal_in};
 
             fn edges() -> impl Iterator<Item = $type> {
                 let tens = (0..=$type::MAX.ilog10()).map(|power| (10 as $type).pow(power));
@@ -31,22 +42,25 @@ macro_rules! decimal {
             }
 
             fn read(text: &[u8]) {
-                assert_eq!(read_decimal(text, 0, text.len()), parsed::<$type>(text), "{:?}", text.escape_ascii().to_string());
+                assert_eq!(read_decimal(text), parsed::<$type>(text), "{:?}", text.escape_ascii().to_string());
             }
 
             #[test]
             fn written_and_read_back() {
                 for x in edges().chain($numbers) {
                     let text = x.to_string();
-                    assert_eq!(read_decimal(text.as_bytes(), 0, text.len()), Some(x));
+                    assert_eq!(read_decimal(text.as_bytes()), Ok(x));
                     for length in [0, 1, text.len() - 1, text.len(), text.len() + 1, text.len() + 3] {
-                        for at in [0, 1, 2, 3, length, length + 1, usize::MAX] {
-                            let mut ours = [0xa5; 32];
-                            let mut theirs = ours;
-                            let place = theirs[..length].get_mut(at..at.saturating_add(text.len()));
+                        for at in [0, 1, 2, 3, 31, usize::MAX] {
+                            let (mut ours, mut theirs) = ([0xa5; 32], [0xa5; 32]);
+                            let part = at..at.wrapping_add(length);
+                            let place = theirs.get_mut(part.clone()).and_then(|part| part.get_mut(..text.len()));
                             let length_written = place.map(|place| place.copy_from_slice(text.as_bytes())).map(|()| text.len());
-                            assert_eq!(write_decimal(x, &mut ours[..length], at), length_written, "{x} in {length} at {at}");
-                            assert_eq!(ours, theirs, "{x} in {length} at {at}");
+                            assert_eq!(write_decimal_in(&mut ours, part.clone(), x), length_written, "{x} in {part:?}");
+                            assert_eq!(ours, theirs, "{x} in {part:?}");
+                            ours.fill(0xa5);
+                            assert_eq!(ours.get_mut(part).and_then(|part| write_decimal(part, x)), length_written);
+                            assert_eq!(ours, theirs, "{x} in {length}");
                         }
                     }
                 }
@@ -57,7 +71,7 @@ macro_rules! decimal {
                 for x in edges() {
                     let text = x.to_string();
                     for zeros in [1, 2, 20, 40] {
-                        assert_eq!(read_decimal(&padded(&text, zeros), 0, text.len() + zeros), Some(x), "{x} behind {zeros}");
+                        assert_eq!(read_decimal(&padded(&text, zeros)), Ok(x), "{x} behind {zeros}");
                     }
                     for byte in WRONG_AND_RIGHT {
                         for at in 0..=text.len() {
@@ -92,11 +106,11 @@ macro_rules! decimal {
                     let bytes = [0, 1, 2, 3].map(|place| WRONG_AND_RIGHT[number / SIZE.pow(place) % SIZE]);
                     for from in 0..6 {
                         for to in 0..6 {
-                            let theirs = bytes.get(from..to).and_then(parsed::<$type>);
-                            assert_eq!(read_decimal(&bytes, from, to), theirs, "{bytes:?} {from} {to}");
+                            let theirs = bytes.get(from..to).map(parsed::<$type>);
+                            assert_eq!(read_decimal_in(&bytes, from..to), theirs, "{bytes:?} {from} {to}");
                         }
                     }
-                    assert_eq!(read_decimal(&bytes, 0, usize::MAX), None);
+                    assert_eq!(read_decimal_in(&bytes, 0..usize::MAX), None);
                 }
             }
         }

@@ -59,15 +59,22 @@ zeros!(zeros_of_u32, u32s, beside::of_u32::edges());
 zeros!(zeros_of_u64, u64s, beside::of_u64::edges());
 
 macro_rules! in_order {
-    ($module:ident $type:ident $x:ident $length:ident $at:ident $size:ident; $to:ident $from:ident) => {
-        let mut ours = [0xa5; 20];
-        let mut theirs = ours;
-        let written = promisebook::$module::$to($x, &mut ours[..$length], $at);
-        let place = theirs[..$length].get_mut($at..$at + $size);
-        assert_eq!(written, place.map(|bytes| bytes.copy_from_slice(&$x.$to())));
-        assert_eq!(ours, theirs, "{} of {} in {} bytes at {}", stringify!($to), $x, $length, $at);
-        let part = &ours[$at.min($length)..$length];
-        assert_eq!(promisebook::$module::$from(part), part.try_into().ok().map($type::$from));
+    ($module:ident $type:ident $x:ident; $to:ident $to_in:ident $from:ident $from_in:ident) => {
+        assert_eq!(promisebook::$module::$to($x), $x.$to());
+        for from in 0..20 {
+            for to in 0..20 {
+                let mut ours = [0xa5; 17];
+                let mut theirs = ours;
+                let written = promisebook::$module::$to_in(&mut ours, from..to, $x);
+                let place = theirs.get_mut(from..to).and_then(|part| part.get_mut(..$x.$to().len()));
+                assert_eq!(written, place.map(|bytes| bytes.copy_from_slice(&$x.$to())));
+                assert_eq!(ours, theirs, "{} of {} in {from}..{to}", stringify!($to), $x);
+                let part = ours.get(from..to);
+                let number = |part: &[u8]| part.try_into().ok().map($type::$from);
+                assert_eq!(promisebook::$module::$from_in(&ours, from..to), part.and_then(number));
+                assert_eq!(part.and_then(promisebook::$module::$from), part.and_then(number));
+            }
+        }
     };
 }
 
@@ -75,14 +82,9 @@ macro_rules! bytes {
     ($name:ident, $module:ident, $type:ident) => {
         #[test]
         fn $name() {
-            const SIZE: usize = $type::BITS as usize / 8;
             for x in beside::$name::edges() {
-                for length in 0..20 {
-                    for at in 0..22 {
-                        in_order!($module $type x length at SIZE; to_le_bytes from_le_bytes);
-                        in_order!($module $type x length at SIZE; to_be_bytes from_be_bytes);
-                    }
-                }
+                in_order!($module $type x; to_le_bytes to_le_bytes_in from_le_bytes from_le_bytes_in);
+                in_order!($module $type x; to_be_bytes to_be_bytes_in from_be_bytes from_be_bytes_in);
             }
         }
     };
@@ -93,4 +95,7 @@ mod bytes_of {
     bytes!(of_u16, u16s, u16);
     bytes!(of_u32, u32s, u32);
     bytes!(of_u64, u64s, u64);
+    bytes!(of_i16, i16s, i16);
+    bytes!(of_i32, i32s, i32);
+    bytes!(of_i64, i64s, i64);
 }

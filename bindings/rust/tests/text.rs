@@ -1,6 +1,6 @@
 //! Text beside the standard library's char and str: every 32-bit number that is near a scalar value, every pair of bytes, and longer texts of edge bytes, also
 //! behind the first blocks of 64 bytes.
-use promisebook::text::{self, Read, Split};
+use promisebook::text::{self, Read};
 use std::str::from_utf8;
 
 /// The ends of the classes of bytes that the forms of UTF-8 tell apart.
@@ -23,13 +23,16 @@ fn one_scalar() {
 #[test]
 fn writing() {
     for c in scalars().filter(|c| c % 61 == 0 || matches!(c, 0..=0x900 | 0xd7f0..=0xe010 | 0xfff0..=0x1_0010 | 0x10_fff0..)) {
-        for length in 0..7 {
-            for at in 0..8 {
-                let mut ours = [0x55; 7];
-                let mut theirs = ours;
+        for from in 0..8 {
+            for to in 0..8 {
+                let (mut ours, mut theirs) = ([0x55; 6], [0x55; 6]);
                 let form = char::from_u32(c).map(|c| c.to_string().into_bytes());
-                let place = form.as_ref().and_then(|form| theirs[..length].get_mut(at..at + form.len()).map(|place| place.copy_from_slice(form)));
-                assert_eq!(text::write(&mut ours[..length], at, c), place.and(form.map(|form| form.len())), "{c:x} in {length} at {at}");
+                let place = form.as_ref().and_then(|form| theirs.get_mut(from..to)?.get_mut(..form.len()).map(|place| place.copy_from_slice(form)));
+                let length = place.and(form.map(|form| form.len()));
+                assert_eq!(text::write_in(&mut ours, from..to, c), length, "{c:x} in {from}..{to}");
+                assert_eq!(ours, theirs);
+                ours.fill(0x55);
+                assert_eq!(ours.get_mut(from..to).and_then(|part| text::write(part, c)), length, "{c:x} in {from}..{to}");
                 assert_eq!(ours, theirs);
             }
         }
@@ -54,6 +57,24 @@ fn whole(s: &[u8]) {
     assert_eq!(text::valid_up_to(s), from_utf8(s).map_or_else(|error| error.valid_up_to(), str::len), "{s:x?}");
     assert_eq!(text::is_ascii(s), s.is_ascii(), "{s:x?}");
     assert_eq!(text::count(s), theirs.map(|t| t.chars().count()), "{s:x?}");
+    assert_eq!(text::as_str(s), theirs, "{s:x?}");
+}
+
+/// All that is asked of a part, beside what is asked of the part alone.
+fn part(s: &[u8], from: usize, to: usize) {
+    let part = s.get(from..to);
+    assert_eq!(text::valid_in(s, from..to), part.map(text::valid), "{s:x?} {from} {to}");
+    assert_eq!(text::valid_up_to_in(s, from..to), part.map(text::valid_up_to), "{s:x?} {from} {to}");
+    assert_eq!(text::is_ascii_in(s, from..to), part.map(text::is_ascii), "{s:x?} {from} {to}");
+    assert_eq!(text::count_in(s, from..to), part.and_then(text::count), "{s:x?} {from} {to}");
+    assert_eq!(text::as_str_in(s, from..to), part.and_then(text::as_str), "{s:x?} {from} {to}");
+    assert_eq!(text::read_first_in(s, from..to), end_of(part, true), "{s:x?} {from} {to}");
+    assert_eq!(text::read_last_in(s, from..to), end_of(part, false), "{s:x?} {from} {to}");
+    for at in 0..s.len() + 2 {
+        assert_eq!(text::is_boundary_in(s, from..to, at), part.and_then(|part| text::is_boundary(part, at)), "{s:x?} {from} {to} {at}");
+        let split = part.and_then(|part| text::split_at(part, at));
+        assert_eq!(text::split_at_in(s, from..to, at), split.map(|(left, _)| (from..from + left.len(), from + left.len()..to)), "{s:x?} {from} {to} {at}");
+    }
 }
 
 fn places(s: &[u8]) {
@@ -61,12 +82,13 @@ fn places(s: &[u8]) {
     for at in 0..s.len() + 2 {
         assert_eq!(text::is_boundary(s, at), theirs.map(|t| t.is_char_boundary(at)), "{s:x?} {at}");
         let split = theirs.and_then(|t| t.split_at_checked(at));
-        assert_eq!(text::split_at(s, at), split.map(|(left, _)| Split { middle: left.len(), end: s.len() }), "{s:x?} {at}");
+        assert_eq!(text::split_at(s, at), split.map(|(left, right)| (left.as_bytes(), right.as_bytes())), "{s:x?} {at}");
         for to in at.saturating_sub(1)..s.len() + 2 {
-            assert_eq!(text::read_first(s, at, to), end_of(s.get(at..to), true), "{s:x?} {at} {to}");
-            assert_eq!(text::read_last(s, at, to), end_of(s.get(at..to), false), "{s:x?} {at} {to}");
+            part(s, at, to);
         }
     }
+    assert_eq!(text::read_first(s), end_of(Some(s), true), "{s:x?}");
+    assert_eq!(text::read_last(s), end_of(Some(s), false), "{s:x?}");
 }
 
 #[test]
@@ -75,8 +97,8 @@ fn every_form() {
         let mut bytes = [0; 4];
         let s = c.encode_utf8(&mut bytes).as_bytes();
         assert!(text::valid(s));
-        assert_eq!(text::read_first(s, 0, s.len()), Some(Read { value: c as u32, length: s.len() }));
-        assert_eq!(text::read_last(s, 0, s.len()), Some(Read { value: c as u32, length: s.len() }));
+        assert_eq!(text::read_first(s), Some(Read { value: c as u32, length: s.len() }));
+        assert_eq!(text::read_last(s), Some(Read { value: c as u32, length: s.len() }));
     }
 }
 
