@@ -1,5 +1,5 @@
-"""The numbers in documents that the table settles, and the crate's version, which is that of the file VERSION: each is written where a sentence has it. The sentence
-stays as it is written by hand."""
+"""The numbers in documents that the table settles, and the crate's version, which is that of the file VERSION: each is written where a sentence has it. The
+sentence stays as it is written by hand."""
 import os
 import re
 

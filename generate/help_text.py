@@ -1,5 +1,5 @@
-"""What `ask --help` lists, a line for each name and its arguments: crates/ask/src/help.rt, and the same as text, docs/ask_help.txt, for whoever has no program yet.
-And what each operation takes, as the crate `reasons` says it."""
+"""What `ask --help` lists, a line for each name and its arguments: crates/ask/src/help.rt, and the same as text, docs/ask_help.txt, for whoever has no program
+yet. And what each operation takes, as the crate `reasons` says it."""
 import os
 import re
 
