@@ -21,13 +21,33 @@ DAMAGES = [
     ("integers.txt", "cases: shifts left\n", "cases: shifts up\n", "wrapping_shl: a case has shifts"),
     ("integers.txt", "name: wrapping_mul\n", "name: wrapping_mul\nname: wrapping_product\n", "the field name stands twice"),
     ("integers.txt", "name: wrapping_mul\n", "names: wrapping_mul\n", "an operation without a name"),
-    ("integers.txt", "gives: sums::Checked\nhome: sums\ncontract: Answers (r .ok) [r .value] (checked-mul", "gives: sums::Check\nhome: sums\ncontract: Answers (r .ok) (r .value) (checked-mul", "checked_mul: it gives"),
-    ("integers.txt", "name: saturating_mul\nof: T\ngives: own\nhome: sums\n", "name: saturating_mul\nof: T\ngives: own\nhome: division\n", "saturating_mul: it lacks its code"),
-    ("integers.txt", "vstd: std_specs/num LETTER::NAME\n", "vstd: std_specs/num LETTER::NAME_\n", "wrapping_add: it lacks a row in docs/contracts of pb_u8_wrapping_add, vstd's"),
+    (
+        "integers.txt", "gives: sums::Checked\nhome: sums\ncontract: Answers (r .ok) [r .value] (checked-mul",
+        "gives: sums::Check\nhome: sums\ncontract: Answers (r .ok) (r .value) (checked-mul",
+        "checked_mul: it gives",
+    ),
+    (
+        "integers.txt", "name: saturating_mul\nof: T\ngives: own\nhome: sums\n",
+        "name: saturating_mul\nof: T\ngives: own\nhome: division\n",
+        "saturating_mul: it lacks its code",
+    ),
+    (
+        "integers.txt", "vstd: std_specs/num LETTER::NAME\n",
+        "vstd: std_specs/num LETTER::NAME_\n",
+        "wrapping_add: it lacks a row in docs/contracts of pb_u8_wrapping_add, vstd's",
+    ),
     ("zeros.txt", "name: trailing_ones\n", "name: trailing_twos\n", "trailing_twos: "),
     ("slices.txt", "name: set\n", "name: put\n", "put: its proof is by hand"),
-    ("slices.txt", "takes: s: &mut [u8], from: usize, to: usize, i: usize, v: u8\n", "takes: s: &mut [u8], from: usize, to: usize, i: usize, v: u8, w: u8\n", "set: it cannot be asked"),
-    ("slices.txt", "takes: s: &[u8], from: usize, to: usize, v: u8\n", "takes: v: u8, s: &[u8], from: usize, to: usize\n", "contains: it cannot be asked: bytes are the first"),
+    (
+        "slices.txt", "takes: s: &mut [u8], from: usize, to: usize, i: usize, v: u8\n",
+        "takes: s: &mut [u8], from: usize, to: usize, i: usize, v: u8, w: u8\n",
+        "set: it cannot be asked",
+    ),
+    (
+        "slices.txt", "takes: s: &[u8], from: usize, to: usize, v: u8\n",
+        "takes: v: u8, s: &[u8], from: usize, to: usize\n",
+        "contains: it cannot be asked: bytes are the first",
+    ),
     ("text.txt", "said: 0 middle end\n", "said: 0 middle last\n", "split_at: `said` names last"),
     ("decimal.txt", "asked: s at x\n", "asked: s at\n", "write_decimal: x is neither asked for nor given"),
 ]
