@@ -1,5 +1,5 @@
-// Questions about the library's operations, each a line, and their answers (docs/ASK.md has the protocol). What can be asked, and what each takes and answers, are
-// the tables of `numbered`.
+// Questions about the library's operations, each a line, and their answers (docs/ASK.md has the protocol). What can be asked, and what each takes and answers,
+// are the tables of `numbered`.
 pub mod answers;
 pub mod arguments;
 pub mod names;
