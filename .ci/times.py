@@ -31,7 +31,7 @@ def line(title, found, of):
 def write_table(log):
     rows = sorted((-int(seconds), name) for name, seconds in PROOF.findall(log) if int(seconds) > SHORT)
     with open(TABLE, "w", encoding="utf-8") as table:
-        table.write("# About how many seconds the proof of each crate takes with four at a time on two cores; of a crate that is not named, %d or fewer.\n" % SHORT)
+        table.write("# About how many seconds the proof of each crate takes, four at a time on two cores; of one that is not named, %d or fewer.\n" % SHORT)
         table.write("# Written by .ci/times.py --table from what rt ci said; bindings/progress guesses by it.\n")
         table.writelines("%s %d\n" % (name, -seconds) for seconds, name in rows)
 

@@ -1,4 +1,5 @@
-"""What other people's programs link the library with: bindings/c/promisebook.h with a program that tries it, and the sources of the crate in bindings/rust, for every export of the table."""
+"""What other people's programs link the library with: bindings/c/promisebook.h with a program that tries it, and the sources of the crate in bindings/rust, for
+every export of the table."""
 import os
 
 from bindings import c_examples, c_header, rust_crate
