@@ -77,8 +77,8 @@ class Machine:
         return subprocess.run([self.script], env={**told, **variables}, capture_output=True, text=True, cwd=self.crate, start_new_session=True)
 
 
-# ---- the cases: each is a function of a machine and the two archives, and answers what is expected: the path of the archive that is linked, or what is said of a
-# fault and of what helps
+# ---- the cases: each is a function of a machine and the two archives, and answers a run and what is expected of it: the path of the archive that is linked,
+# or what is said of a fault and of what helps
 
 
 def a_named_archive(machine, plain, inlined):
@@ -209,7 +209,8 @@ def an_archive_with_too_few_functions(machine, plain, inlined):
 
 def an_archive_with_too_many_functions(machine, plain, inlined):
     declarations(machine, lambda text: re.sub(r".*fn pb_u8_wrapping_(add|sub)\(.*\n", "", text))
-    return machine.run(PROMISEBOOK_ARCHIVE=plain), ("is of another version: it has 2 (pb_u8_wrapping_add, ..) functions that this crate does not declare", HELP["version"])
+    wrong = "is of another version: it has 2 (pb_u8_wrapping_add, ..) functions that this crate does not declare"
+    return machine.run(PROMISEBOOK_ARCHIVE=plain), (wrong, HELP["version"])
 
 
 def an_archive_with_other_functions(machine, plain, inlined):
@@ -252,6 +253,13 @@ def modules_and_a_newer_rustc(machine, plain, inlined):
     return machine.run(CARGO_FEATURE_INLINED="1", PROMISEBOOK_ARCHIVE=inlined), inlined
 
 
+def modules_and_a_rustc_that_lists_its_objects(machine, plain, inlined):
+    machine.command("rustc", 'case $1 in -vV) echo "LLVM version: 22.1.2" ;; *) echo lib.rmeta-link >"$4" ;; esac')
+    run = machine.run(CARGO_FEATURE_INLINED="1", PROMISEBOOK_ARCHIVE=inlined)
+    warned = "cargo:warning=this rustc takes no modules from archives" in run.stdout
+    return run, inlined if warned else ("cargo:warning=this rustc takes no modules from archives", "")
+
+
 def machine_code_and_an_older_rustc(machine, plain, inlined):
     machine.command("rustc", "echo 'LLVM version: 19.1.7'")
     return machine.run(PROMISEBOOK_ARCHIVE=plain), plain
@@ -266,7 +274,7 @@ CASES = [
     an_archive_with_too_few_functions, an_archive_with_too_many_functions, an_archive_with_other_functions,
     outside_the_repository, outside_the_repository_with_an_archive,
     other_machine(ARCH="aarch64"), other_machine(OS="windows"), other_machine(VENDOR="apple"), other_machine(POINTER_WIDTH="32"),
-    nothing_to_inline, modules_and_an_older_rustc, modules_and_a_newer_rustc, machine_code_and_an_older_rustc,
+    nothing_to_inline, modules_and_an_older_rustc, modules_and_a_newer_rustc, modules_and_a_rustc_that_lists_its_objects, machine_code_and_an_older_rustc,
 ]  # fmt: skip
 
 

@@ -234,15 +234,33 @@ fn modules_fit(path: &Path, wanted: bool, modules_of: Option<&str>) -> Result<()
         let help = "name libpromisebook_inlined.a, which dist/ has and bindings/archive --inlined writes, or leave the feature `inlined` out";
         return fault(format!("{} has machine code alone, and nothing to inline", path.display()), help);
     };
-    let rustc = Command::new(env::var_os("RUSTC").unwrap_or("rustc".into())).arg("-vV").output();
-    let said = rustc.map(|output| String::from_utf8_lossy(&output.stdout).into_owned()).unwrap_or_default();
+    let said = rustc(&["-vV"]);
     let ours = said.lines().find_map(|line| line.strip_prefix("LLVM version: ")).unwrap_or("unknown");
     let first = |version: &str| version.split('.').next().and_then(|number| number.parse::<u32>().ok());
-    if first(ours) >= first(theirs) {
-        return Ok(());
+    if first(ours) < first(theirs) {
+        return fault(
+            format!("{} has modules that LLVM {theirs} wrote, and this rustc's LLVM, {ours}, cannot read them", path.display()),
+            "take a rustc whose LLVM is as new (Rust 1.95 has LLVM 22), or libpromisebook.a and no feature `inlined`",
+        );
     }
-    fault(
-        format!("{} has modules that LLVM {theirs} wrote, and this rustc's LLVM, {ours}, cannot read them", path.display()),
-        "take a rustc whose LLVM is as new (Rust 1.95 has LLVM 22), or libpromisebook.a and no feature `inlined`",
-    )
+    if wanted && lists_its_objects() {
+        println!("cargo:warning=this rustc takes no modules from archives: the operations are called, and not inlined as by Rust 1.95 (bindings/README.md)");
+    }
+    Ok(())
+}
+
+fn rustc(words: &[&str]) -> String {
+    let output = Command::new(env::var_os("RUSTC").unwrap_or("rustc".into())).args(words).output();
+    output.map(|output| String::from_utf8_lossy(&output.stdout).into_owned()).unwrap_or_default()
+}
+
+/// Whether rustc writes a list of its own objects into a library, as it does from some version on: then it takes no others for its own.
+fn lists_its_objects() -> bool {
+    let folder = PathBuf::from(cargo_says("OUT_DIR"));
+    let (source, library) = (folder.join("empty.rs"), folder.join("libempty.rlib"));
+    if fs::write(&source, "#![no_std]\n").is_err() {
+        return false;
+    }
+    rustc(&["--crate-type", "rlib", "-o", &library.to_string_lossy(), &source.to_string_lossy()]);
+    fs::read(library).is_ok_and(|bytes| bytes.windows(14).any(|name| name == b"lib.rmeta-link"))
 }
