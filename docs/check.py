@@ -405,7 +405,9 @@ def main():
     for fault in faults:
         print(fault)
     taken = sum(item.split(" ")[0] in TAKEN_UP for item in library.items)
-    print("docs: %d rows, %d items of vstd's in the files taken up, %d public functions, %d must-fail edits, %d damages tried, %d faults" % (len(rows), taken, len(library.functions), len(library.edits), len(DAMAGES) + len(OTHER_DAMAGES) + 1, len(faults)))
+    print("docs: %d rows, %d items of vstd's in the files taken up, %d public functions, %d must-fail edits, %d damages tried, %d faults" % (
+        len(rows), taken, len(library.functions), len(library.edits), len(DAMAGES) + len(OTHER_DAMAGES) + 1, len(faults),
+    ))
     sys.exit(1 if faults else 0)
 
 

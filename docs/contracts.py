@@ -30,11 +30,15 @@ FIELDS = ["item", "clause", "restated", "export", "operation", "law", "verdict",
 FIRST, SECOND, THIRD = ("item", "clause", "verdict"), ("restated", "export", "operation"), ("law", "pinned", "wrong")
 LABELS = {"restated": "restated as", "export": "export", "operation": "operation", "law": "law", "pinned": "pinned by", "wrong": "refused"}
 RANGES = ["Range<usize>", "RangeTo<usize>", "RangeFrom<usize>", "RangeToInclusive<usize>", "RangeFull", "RangeInclusive<usize>"]
-VSTD_FILES = ["arithmetic/power2", "bits", "bytes", "endian", "math", "slice", "std_specs/bits", "std_specs/char", "std_specs/num", "std_specs/range", "std_specs/slice", "utf8", "wrapping"]
+VSTD_FILES = [
+    "arithmetic/power2", "bits", "bytes", "endian", "math", "slice", "std_specs/bits", "std_specs/char", "std_specs/num", "std_specs/range", "std_specs/slice", "utf8",
+    "wrapping",
+]
+MEANINGS = "M"  # the letter of what our definitions mean, whose file has none
 
 
 class Row(dict):
-    """A row's fields, and where it stands."""
+    """A row's fields, where it stands, and what it is cited by: the letter of its file and its number there."""
 
 
 def sources():
@@ -48,13 +52,15 @@ def read(path):
 
 def parts(name, text):
     """A source file as a list of rows and of lines that are no row."""
-    found, row, field = [], None, None
+    found, row, field, rows = [], None, None, 0
     for number, line in enumerate(text.split("\n"), 1):
         entry = re.match(r"(\w+): *(.*)$", line)
         if entry and entry.group(1) in FIELDS:
             if row is None:
                 row = Row()
+                rows += 1
                 row.where = "docs/contracts/%s:%d" % (name, number)
+                row.cited = "%s%d" % (name[0] if name[0].isalpha() else MEANINGS, rows)
                 row.order = []
                 found.append(row)
             field = entry.group(1)
@@ -134,7 +140,7 @@ def cell(row, field):
         return ""
     text = text.replace("|", "\\|")
     if field == "item":
-        return "**%s**" % text if text == "beyond vstd" else "**`%s`**" % text
+        return "%s **%s**" % (row.cited, text if text == "beyond vstd" else "`%s`" % text)
     if field == "verdict":
         word, colon, reason = text.partition(":")
         return "*%s*%s%s" % (word, colon, reason)

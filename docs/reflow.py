@@ -20,7 +20,7 @@ BOUND = re.compile(r" (?=(?:[-+*]|\d+\.) |[|#>]|(?:%s):)" % "|".join(contracts.F
 
 
 def files():
-    patterns = ("*.md", "docs/*.md", "docs/*/*.md", "docs/contracts/*.txt", "tests/*/*.md")
+    patterns = ("*.md", "docs/*.md", "docs/*/*.md", "docs/contracts/*.txt", "tests/*/*.md", "dist/*.md", "bindings/*.md")
     return sorted(path for pattern in patterns for path in glob.glob(os.path.join(ROOT, pattern)) if os.path.basename(path) != "CONTRACTS.md")
 
 

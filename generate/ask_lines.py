@@ -1,5 +1,5 @@
-"""What the program `ask` is asked in the gate, and what it must answer: crates/ask/stdin and stdout. First the cases of every export, answered by its meaning; then
-the lines of templates/ask, which are written by hand: more arguments, and lines that are no questions. Nothing is taken from a run."""
+"""What the program `ask` is asked in the gate, and what it must answer: crates/ask/stdin and stdout. First the cases of every export, answered by its meaning;
+then the lines of templates/ask, which are written by hand: more arguments, and lines that are no questions. Nothing is taken from a run."""
 import os
 
 from declared import Struct

@@ -1,5 +1,5 @@
-"""What an operation has besides its record, each by hand: its code, its independent meaning, its clause, law and row, its wrong answers, its rule in every_pair.
-Yields a line for each that is missing."""
+"""What an operation has besides its record, each by hand: its code, its independent meaning, its clause, law and row, its wrong answers, its rule in
+every_pair. Yields a line for each that is missing."""
 import functools
 import glob
 import importlib.util
@@ -82,7 +82,9 @@ def promised(export):
     edits = {edit for row in rows for edit in contracts().refused(row)}
     edits |= {edit for row in rows for name in contracts().named(row, "operation") for edit in tried().get(name, ())}
     if len(edits) < WRONG:
-        yield "wrong answers: there are %d must-fail edits of it (in crates/*/must-fail, named in the rows of %s), and there must be %d" % (len(edits), export.symbol, WRONG)
+        yield "wrong answers: there are %d must-fail edits of it (in crates/*/must-fail, named in the rows of %s), and there must be %d" % (
+            len(edits), export.symbol, WRONG,
+        )
 
 
 def ruled(rule):

@@ -1,5 +1,5 @@
-"""The lines of crates.txt of the crates that come from the table of operations: what a crate rests on is what its files name, and the crates of the structs that the exports
-that it calls give. The other lines are written by hand."""
+"""The lines of crates.txt of the crates that come from the table of operations: what a crate rests on is what its files name, and the crates of the structs that
+the exports that it calls give. The other lines are written by hand."""
 import os
 import re
 

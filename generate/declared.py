@@ -221,7 +221,8 @@ SOURCES = {}  # what other generators have made: {path: text}
 @functools.lru_cache(None)
 def structs(crate):
     folder = os.path.join(CRATES, crate, "src")
-    paths = set(glob.glob(os.path.join(folder, "**", "*.rt"), recursive=True)) | {path for path in SOURCES if path.startswith(folder + os.sep) and path.endswith(".rt")}
+    paths = set(glob.glob(os.path.join(folder, "**", "*.rt"), recursive=True))
+    paths |= {path for path in SOURCES if path.startswith(folder + os.sep) and path.endswith(".rt")}
     texts = [SOURCES[path] if path in SOURCES else read(path) for path in sorted(paths)]
     return {name: Struct(crate, name, tuple(FIELD.findall(fields))) for text in texts for name, fields in STRUCT.findall(text)}
 

@@ -33,7 +33,8 @@ def spelled(export, answer):
         return "refused"
     parts = answer if isinstance(answer, tuple) else (answer,)
     letters = [letter for _, letter in said(export)]
-    return " ".join(ORDERS[part] if letter == ORDER else str(bool(part)).lower() if letter == TRUTH else str(part) for part, letter in zip(parts, letters, strict=True))
+    written = {ORDER: lambda part: ORDERS[part], TRUTH: lambda part: str(bool(part)).lower()}
+    return " ".join(written.get(letter, str)(part) for part, letter in zip(parts, letters, strict=True))
 
 
 def rows(kind):

@@ -10,6 +10,7 @@ from table import Fault
 from templates import CRATES, TEMPLATES, WIDTHS, filled, read, templates
 
 LONGEST = 100  # columns of a signature, as the formatter lays it out
+WIDEST = 160  # columns of a line that imports
 DECLARED = re.compile(r"^(?:(?:abbrev|unfoldable) )?pub (?:record |data )?(\S+) [:(]", re.M)
 CONSTRUCTOR = re.compile(r"^  (?:pub )?(\S+) :", re.M)
 BY_HAND, NOT_NEEDED = "by hand", "none needed"
@@ -40,6 +41,17 @@ def cites(export, name):
     return " %s " % name.strip("_") in export.contract if name.startswith("_") else name in cited(export)
 
 
+def imported(module, names):
+    """The lines that import names of a module, as many as fit a line."""
+    lines = []
+    for name in names:
+        if lines and len(lines[-1]) + len(", %s};" % name) <= WIDEST:
+            lines[-1] += ", " + name
+        else:
+            lines.append("ghost use %s.{%s" % (module, name))
+    return [line + "};\n" for line in lines]
+
+
 def uses(found):
     """The lines that import what the contracts cite, in the order of the family's record."""
     lines, left = [], {word: export for export in reversed(found) for word in cited(export)}
@@ -47,22 +59,20 @@ def uses(found):
         module, _, rest = found[0].filled(written).partition(" ")
         if rest.startswith("{"):
             names = [name for name in re.findall(r"[^{}, ]+", rest) if any(cites(export, name) for export in found)]
-            if names:
-                lines.append("%s.{%s}" % (module, ", ".join(names)))
+            lines += imported(module, names)
         elif rest.startswith("as "):
             crate, file = module.split("/")
             names = [word for word in left if word.startswith(rest[3:] + ".") and word.split(".")[1] in names_of(module)]
-            lines.append("Rattle.%s.specs.%s %s" % (crate, file, rest))
+            lines.append("ghost use Rattle.%s.specs.%s %s;\n" % (crate, file, rest))
         else:
             crate, file = module.split("/")
             names = [name for name in names_of(module) if name in left]
-            if names:
-                lines.append("Rattle.%s.specs.%s.{%s}" % (crate, file, ", ".join(names)))
+            lines += imported("Rattle.%s.specs.%s" % (crate, file), names)
         for name in names:
             left.pop(name, None)
     for word, export in left.items():
         raise export.operation.fault("its contract cites %s, which no module under `uses` defines" % word)
-    return "".join("ghost use %s;\n" % line for line in lines)
+    return "".join(lines)
 
 
 # ---- the functions
@@ -97,7 +107,8 @@ def proof(export):
         folder = os.path.join(folder, export.kind.sign)
     shapes = templates(folder, export.kind.width)
     if shape not in shapes:
-        raise export.operation.fault("there is no proof of the shape %s (%s.antt.in in generate/%s)" % (shape, shape, os.path.relpath(folder, os.path.dirname(TEMPLATES))))
+        place = os.path.relpath(folder, os.path.dirname(TEMPLATES))
+        raise export.operation.fault("there is no proof of the shape %s (%s.antt.in in generate/%s)" % (shape, shape, place))
     named = {**export.kind.code_words(), "OPERATION": export.name, "DASHED": export.name.replace("_", "-")}
     return [(path, filled(shapes[shape], named))]
 

@@ -61,8 +61,9 @@ def main():
         return
     strays = sorted(set(stored(made)) - set(made))
     changed = [path for path, text in made.items() if not os.path.exists(path) or read(path) != text]
+    done = ("differs from what is generated", "is not generated") if check else ("written", "removed")
     for path in changed + strays:
-        print("%s: %s" % (os.path.relpath(path, os.path.dirname(CRATES)), "is not generated" if path in strays else "differs from its template"))
+        print("%s: %s" % (os.path.relpath(path, os.path.dirname(CRATES)), done[path in strays]))
     missing = list(complete.faults())
     if check:
         missing += [] if missing else list(selftest.faults())

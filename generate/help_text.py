@@ -1,7 +1,9 @@
-"""What `ask --help` lists: crates/ask/src/help.rt, with a line for each name and its arguments."""
+"""What `ask --help` lists, a line for each name and its arguments: crates/ask/src/help.rt, and the same as text, docs/ask_help.txt, for whoever has no program
+yet. And what each operation takes, as the crate `reasons` says it."""
 import os
+import re
 
-from code import function
+from code import function, table
 from numbering import asked, rows
 from templates import CRATES, filled_file
 
@@ -38,3 +40,13 @@ def files():
     calls_of_bytes, others = lists(["bytes", "text"])
     text = filled_file("ask/help.rt.in", CALLS_OF_INTEGERS=calls_of_integers, CALLS_OF_BYTES=calls_of_bytes, LISTS="\n".join(integers + others))
     yield os.path.join(CRATES, "ask", "src", "help.rt"), text
+    yield os.path.join(os.path.dirname(CRATES), "docs", "ask_help.txt"), printed(text)
+    names = table("SHOWN", " ".join(",".join(shown(row.exports[0])) for row in rows()), "The arguments of each operation, in the order of their numbers.")
+    yield os.path.join(CRATES, "reasons", "src", "takes.rt"), filled_file("reasons/takes.rt.in", TABLE=names)
+
+
+def printed(code):
+    """What help.rt prints: the texts of its functions, in the order in which `print` calls them."""
+    bodies = dict(re.findall(r"^(?:pub )?fn (\w+)\(\) \{\n(.*?)^\}", code, re.M | re.S))
+    texts = [text for name in re.findall(r"(\w+)\(\);", bodies["print"]) for text in re.findall(r'b"((?:[^"\\]|\\.)*)"', bodies[name])]
+    return "".join(texts).replace("\\n", "\n")

@@ -7,6 +7,8 @@ from kinds import KINDS
 from numbering import GROUPS, SAID, SETS, TAKEN, given, on_numbers, rows
 from templates import CRATES, filled_file
 
+WHO_HAS = "Who has each: T the unsigned kinds, S the signed ones, B both, U those up to 64 bits, W those of several bytes; b bytes, t text."
+WHAT_IT_TAKES = "What each takes, a row of %d: x its kind, o that of the other sign, A and so on a kind by its number, t a truth, b bytes."
 
 
 def condition(letter):
@@ -24,8 +26,8 @@ def tables():
     return "\n".join([
         table("GROUPS", " ".join(GROUPS), "The kinds and families."),
         table("NAMES", " ".join(row.name for row in rows()), "The operations in the order of their numbers."),
-        table("OF", "".join(row.of for row in rows()), "Who has each: T the unsigned kinds, S the signed ones, B both, U those up to 64 bits, W those of several bytes; b bytes, t text."),
-        table("TAKES", "".join(row.takes for row in rows()), "What each takes, a row of %d: x its kind, o that of the other sign, A and so on a kind by its number, t a truth, b bytes." % TAKEN, TAKEN),
+        table("OF", "".join(row.of for row in rows()), WHO_HAS),
+        table("TAKES", "".join(row.takes for row in rows()), WHAT_IT_TAKES % TAKEN, TAKEN),
         table("SAYS", "".join(row.says for row in rows()), "What each answers, a row of %d in the same letters, and c for a comparison." % SAID, SAID),
         table("FORMS", letters, "How each is run: a letter for those that take the same, and on numbers alone give the same."),
         "// ---- the ways to run one\n",

@@ -1,5 +1,5 @@
-"""The crates numbered_bytes and numbered_digits: the operations on slices and text, and those of integers that take or answer bytes, by their numbers; a module for each
-family and kind."""
+"""The crates numbered_bytes and numbered_digits: the operations on slices and text, and those of integers that take or answer bytes, by their numbers; a module
+for each family and kind."""
 import os
 import re
 

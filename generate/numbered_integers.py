@@ -1,4 +1,5 @@
-"""The crates numbered_u8 .. numbered_isize and numbered_integers: the operations of each kind on numbers alone by their numbers, and those of all kinds together."""
+"""The crates numbered_u8 .. numbered_isize and numbered_integers: the operations of each kind on numbers alone by their numbers, and those of all kinds
+together."""
 import os
 
 from code import function, match
@@ -6,6 +7,11 @@ from forms import NUMBERS, form, forms, module
 from kinds import KINDS
 from numbering import on_numbers
 from templates import CRATES, SIGNS, filled_file
+
+ABOUT = (
+    "// The operations of %s on numbers alone by their numbers (crate `numbered`), as the faces export them (written by generate/ from the table of operations).\n"
+)
+
 
 def handed():
     """The numbers that the modules are handed."""
@@ -41,13 +47,17 @@ def of_kind(kind):
     lets = "".join("    let %s = %s;\n" % (name, code) for name, code in bits.items())
     run = function(
         "fn handed(operation: u8, %s) -> Answer" % ", ".join("%s: u64" % name for name in handed()),
-        lets + match("numbered::form(operation)", [("numbered::" + name.upper(), arm) for name, arm in others.items()], "of_common(operation, %s)" % ", ".join(names)),
+        lets + match(
+            "numbered::form(operation)", [("numbered::" + name.upper(), arm) for name, arm in others.items()], "of_common(operation, %s)" % ", ".join(names),
+        ),
     )
     numbers = ", ".join("n." + name for name in handed())
-    outer = function("pub fn run(operation: u8, n: Numbers) -> Answer", "    handed(operation, %s)\n" % numbers, "Arguments are cut down to their kind's width.")
-    uses = "use numbered::Answer;\nuse numbered::Numbers;\n" + "".join("use %s as %s;\n" % pair for pair in wrappers(kind) if any(pair[1] + "::" in text for text in [run, *converters]))
-    about = "// The operations of %s on numbers alone by their numbers (crate `numbered`), as the faces export them (written by generate/ from the table of operations).\n"
-    return "\n".join([about % kind.name + uses, outer, run, inner, *functions, *converters])
+    outer = function(
+        "pub fn run(operation: u8, n: Numbers) -> Answer", "    handed(operation, %s)\n" % numbers, "Arguments are cut down to their kind's width.",
+    )
+    called = [pair for pair in wrappers(kind) if any(pair[1] + "::" in text for text in [run, *converters])]
+    uses = "use numbered::Answer;\nuse numbered::Numbers;\n" + "".join("use %s as %s;\n" % pair for pair in called)
+    return "\n".join([ABOUT % kind.name + uses, outer, run, inner, *functions, *converters])
 
 
 def files():

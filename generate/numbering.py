@@ -1,7 +1,8 @@
-"""Every operation under a number, as programs have it: those of integers on numbers alone first, then the others; with what each takes and answers, letter by letter.
+"""Every operation under a number, as programs have it: those of integers on numbers alone first, then the others; with what each takes and answers, letter by
+letter.
 
-A letter is x for the kind that the operation is of, o for the kind of the other sign, t for true or false, c for a comparison, b for bytes, . for nothing, and a
-capital for a kind of its own."""
+A letter is x for the kind that the operation is of, o for the kind of the other sign, t for true or false, c for a comparison, b for bytes, . for nothing, and
+a capital for a kind of its own."""
 import functools
 import re
 from dataclasses import dataclass
@@ -33,7 +34,9 @@ class Row:
         groups = {export.group for export in self.exports}
         found = [letter for letter, known in SETS.items() if known == groups]
         if not found:
-            raise self.exports[0].operation.fault("the types that have it (%s) are no set that programs have a letter for (SETS of generate/numbering.py)" % " ".join(sorted(groups)))
+            raise self.exports[0].operation.fault(
+                "the types that have it (%s) are no set that programs have a letter for (SETS of generate/numbering.py)" % " ".join(sorted(groups))
+            )
         return found[0]
 
     @property
@@ -58,7 +61,8 @@ def letter(kind):
 
 def letter_of_field(export, kind):
     """Of a field of the struct that is given: of the operation's own kind where the struct is one of the kind's crate."""
-    own = {export.kind.name: OWN, export.kind.other: OTHER} if export.kind and export.filled(export.operation.get("gives")) != export.operation.get("gives") else {}
+    gives = export.operation.get("gives")
+    own = {export.kind.name: OWN, export.kind.other: OTHER} if export.kind and export.filled(gives) != gives else {}
     return own.get(kind) or letter(kind)
 
 
@@ -130,7 +134,8 @@ def check_shape(export, takes, says):
     """What programs can ask: bytes first and once more at most, and no more numbers than they hold."""
     numbers = len(takes.replace(BYTES, "").replace(NOTHING, ""))
     if len(takes) > TAKEN or len(says) > SAID or numbers > NUMBERS:
-        raise export.operation.fault("it cannot be asked: programs have at most %d arguments, %d numbers among them, and %d parts of an answer" % (TAKEN, NUMBERS, SAID))
+        most = "programs have at most %d arguments, %d numbers among them, and %d parts of an answer" % (TAKEN, NUMBERS, SAID)
+        raise export.operation.fault("it cannot be asked: " + most)
     if not re.fullmatch(r"b?[^b.]*b?\.*", takes):
         raise export.operation.fault("it cannot be asked: bytes are the first argument, and other bytes the last (`asked`)")
 

@@ -24,7 +24,9 @@ def arm(row, export):
 
 def function(kind):
     arms = "".join(arm(row, export) for row in rows() for export in row.exports if export.kind == kind)
-    return "pub fn %s(operation: &str, question: Question) -> Answered {\n    match operation {\n%s        _ => Err(NoAnswer::Unknown),\n    }\n}\n" % (kind.name, arms)
+    return (
+        "pub fn %s(operation: &str, question: Question) -> Answered {\n    match operation {\n%s        _ => Err(NoAnswer::Unknown),\n    }\n}\n" % (kind.name, arms)
+    )
 
 
 def files():

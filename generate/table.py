@@ -1,4 +1,5 @@
-"""The table of operations: reads operations/*.txt (operations/README.txt says how they are written), and says what is wrong with a record by its file and line."""
+"""The table of operations: reads operations/*.txt (operations/README.txt says how they are written), and says what is wrong with a record by its file and
+line."""
 import functools
 import glob
 import os
@@ -15,8 +16,8 @@ OF_FAMILY = re.compile(
     r"family|of|face|opening|uses|home|home of [A-Z]|title|about|module|struct \w+|word [A-Z_]+|bytes \w+|cases [a-z ]+?(?: of [A-Z])?"
 )
 OF_OPERATION = [
-    "name", "of", "heading", "note", "takes", "gives", "home", "body", "contract", "proof", "sentence", "vstd", "cases", "characters", "shown", "asked", "given",
-    "said", "answer", "also asked", "rust", "whole", "part", "always", "places", "range", "begins", "array", "error", "signed",
+    "name", "of", "heading", "note", "takes", "gives", "home", "body", "contract", "proof", "sentence", "vstd", "cases", "characters", "shown", "asked",
+    "given", "said", "answer", "also asked", "rust", "whole", "part", "always", "places", "range", "begins", "array", "error", "signed",
     "when", "when of S", "verus", "verus of S", "leaves", "besides",
 ]
 # What every operation has, of its own or from its family; `body` may stand for `home`.

@@ -1165,6 +1165,133 @@ static void of_text(void)
     { const uint8_t s[] = {0}; size_t r = pb_text_valid_up_to(s, 0); check("pb_text_valid_up_to", r == 0u); }
 }
 
+static void of_no_bytes(void)
+{
+    { pb_answer_u8 r = pb_u8_read_decimal(NULL, 0, 0u, 0u); check("pb_u8_read_decimal", !r.ok && r.value == 0u); }
+    { pb_answer_u8 r = pb_u8_read_decimal(NULL, 0, 1u, 1u); check("pb_u8_read_decimal", !r.ok && r.value == 0u); }
+    { pb_answer_usize r = pb_u8_write_decimal(0u, NULL, 0, 0u); check("pb_u8_write_decimal", !r.ok && r.value == 0u); }
+    { pb_answer_usize r = pb_u8_write_decimal(1u, NULL, 0, 1u); check("pb_u8_write_decimal", !r.ok && r.value == 0u); }
+    { pb_answer_u16 r = pb_u16_from_le_bytes(NULL, 0); check("pb_u16_from_le_bytes", !r.ok && r.value == 0u); }
+    { pb_answer_u16 r = pb_u16_from_le_bytes(NULL, 0); check("pb_u16_from_le_bytes", !r.ok && r.value == 0u); }
+    { bool r = pb_u16_to_le_bytes(0u, NULL, 0, 0u); check("pb_u16_to_le_bytes", r == false); }
+    { bool r = pb_u16_to_le_bytes(1u, NULL, 0, 1u); check("pb_u16_to_le_bytes", r == false); }
+    { pb_answer_u16 r = pb_u16_from_be_bytes(NULL, 0); check("pb_u16_from_be_bytes", !r.ok && r.value == 0u); }
+    { pb_answer_u16 r = pb_u16_from_be_bytes(NULL, 0); check("pb_u16_from_be_bytes", !r.ok && r.value == 0u); }
+    { bool r = pb_u16_to_be_bytes(0u, NULL, 0, 0u); check("pb_u16_to_be_bytes", r == false); }
+    { bool r = pb_u16_to_be_bytes(1u, NULL, 0, 1u); check("pb_u16_to_be_bytes", r == false); }
+    { pb_answer_u16 r = pb_u16_read_decimal(NULL, 0, 0u, 0u); check("pb_u16_read_decimal", !r.ok && r.value == 0u); }
+    { pb_answer_u16 r = pb_u16_read_decimal(NULL, 0, 1u, 1u); check("pb_u16_read_decimal", !r.ok && r.value == 0u); }
+    { pb_answer_usize r = pb_u16_write_decimal(0u, NULL, 0, 0u); check("pb_u16_write_decimal", !r.ok && r.value == 0u); }
+    { pb_answer_usize r = pb_u16_write_decimal(1u, NULL, 0, 1u); check("pb_u16_write_decimal", !r.ok && r.value == 0u); }
+    { pb_answer_u32 r = pb_u32_from_le_bytes(NULL, 0); check("pb_u32_from_le_bytes", !r.ok && r.value == 0u); }
+    { pb_answer_u32 r = pb_u32_from_le_bytes(NULL, 0); check("pb_u32_from_le_bytes", !r.ok && r.value == 0u); }
+    { bool r = pb_u32_to_le_bytes(0u, NULL, 0, 0u); check("pb_u32_to_le_bytes", r == false); }
+    { bool r = pb_u32_to_le_bytes(1u, NULL, 0, 1u); check("pb_u32_to_le_bytes", r == false); }
+    { pb_answer_u32 r = pb_u32_from_be_bytes(NULL, 0); check("pb_u32_from_be_bytes", !r.ok && r.value == 0u); }
+    { pb_answer_u32 r = pb_u32_from_be_bytes(NULL, 0); check("pb_u32_from_be_bytes", !r.ok && r.value == 0u); }
+    { bool r = pb_u32_to_be_bytes(0u, NULL, 0, 0u); check("pb_u32_to_be_bytes", r == false); }
+    { bool r = pb_u32_to_be_bytes(1u, NULL, 0, 1u); check("pb_u32_to_be_bytes", r == false); }
+    { pb_answer_u32 r = pb_u32_read_decimal(NULL, 0, 0u, 0u); check("pb_u32_read_decimal", !r.ok && r.value == 0u); }
+    { pb_answer_u32 r = pb_u32_read_decimal(NULL, 0, 1u, 1u); check("pb_u32_read_decimal", !r.ok && r.value == 0u); }
+    { pb_answer_usize r = pb_u32_write_decimal(0u, NULL, 0, 0u); check("pb_u32_write_decimal", !r.ok && r.value == 0u); }
+    { pb_answer_usize r = pb_u32_write_decimal(1u, NULL, 0, 1u); check("pb_u32_write_decimal", !r.ok && r.value == 0u); }
+    { pb_answer_u64 r = pb_u64_from_le_bytes(NULL, 0); check("pb_u64_from_le_bytes", !r.ok && r.value == 0u); }
+    { pb_answer_u64 r = pb_u64_from_le_bytes(NULL, 0); check("pb_u64_from_le_bytes", !r.ok && r.value == 0u); }
+    { bool r = pb_u64_to_le_bytes(0u, NULL, 0, 0u); check("pb_u64_to_le_bytes", r == false); }
+    { bool r = pb_u64_to_le_bytes(1u, NULL, 0, 1u); check("pb_u64_to_le_bytes", r == false); }
+    { pb_answer_u64 r = pb_u64_from_be_bytes(NULL, 0); check("pb_u64_from_be_bytes", !r.ok && r.value == 0u); }
+    { pb_answer_u64 r = pb_u64_from_be_bytes(NULL, 0); check("pb_u64_from_be_bytes", !r.ok && r.value == 0u); }
+    { bool r = pb_u64_to_be_bytes(0u, NULL, 0, 0u); check("pb_u64_to_be_bytes", r == false); }
+    { bool r = pb_u64_to_be_bytes(1u, NULL, 0, 1u); check("pb_u64_to_be_bytes", r == false); }
+    { pb_answer_u64 r = pb_u64_read_decimal(NULL, 0, 0u, 0u); check("pb_u64_read_decimal", !r.ok && r.value == 0u); }
+    { pb_answer_u64 r = pb_u64_read_decimal(NULL, 0, 1u, 1u); check("pb_u64_read_decimal", !r.ok && r.value == 0u); }
+    { pb_answer_usize r = pb_u64_write_decimal(0u, NULL, 0, 0u); check("pb_u64_write_decimal", !r.ok && r.value == 0u); }
+    { pb_answer_usize r = pb_u64_write_decimal(1u, NULL, 0, 1u); check("pb_u64_write_decimal", !r.ok && r.value == 0u); }
+    { pb_answer_usize r = pb_usize_read_decimal(NULL, 0, 0u, 0u); check("pb_usize_read_decimal", !r.ok && r.value == 0u); }
+    { pb_answer_usize r = pb_usize_read_decimal(NULL, 0, 1u, 1u); check("pb_usize_read_decimal", !r.ok && r.value == 0u); }
+    { pb_answer_usize r = pb_usize_write_decimal(0u, NULL, 0, 0u); check("pb_usize_write_decimal", !r.ok && r.value == 0u); }
+    { pb_answer_usize r = pb_usize_write_decimal(1u, NULL, 0, 1u); check("pb_usize_write_decimal", !r.ok && r.value == 0u); }
+    { pb_answer_i8 r = pb_i8_read_decimal(NULL, 0, 0u, 0u); check("pb_i8_read_decimal", !r.ok && r.value == 0); }
+    { pb_answer_i8 r = pb_i8_read_decimal(NULL, 0, 1u, 1u); check("pb_i8_read_decimal", !r.ok && r.value == 0); }
+    { pb_answer_usize r = pb_i8_write_decimal(0, NULL, 0, 0u); check("pb_i8_write_decimal", !r.ok && r.value == 0u); }
+    { pb_answer_usize r = pb_i8_write_decimal(1, NULL, 0, 1u); check("pb_i8_write_decimal", !r.ok && r.value == 0u); }
+    { pb_answer_i16 r = pb_i16_read_decimal(NULL, 0, 0u, 0u); check("pb_i16_read_decimal", !r.ok && r.value == 0); }
+    { pb_answer_i16 r = pb_i16_read_decimal(NULL, 0, 1u, 1u); check("pb_i16_read_decimal", !r.ok && r.value == 0); }
+    { pb_answer_usize r = pb_i16_write_decimal(0, NULL, 0, 0u); check("pb_i16_write_decimal", !r.ok && r.value == 0u); }
+    { pb_answer_usize r = pb_i16_write_decimal(1, NULL, 0, 1u); check("pb_i16_write_decimal", !r.ok && r.value == 0u); }
+    { pb_answer_i32 r = pb_i32_read_decimal(NULL, 0, 0u, 0u); check("pb_i32_read_decimal", !r.ok && r.value == 0); }
+    { pb_answer_i32 r = pb_i32_read_decimal(NULL, 0, 1u, 1u); check("pb_i32_read_decimal", !r.ok && r.value == 0); }
+    { pb_answer_usize r = pb_i32_write_decimal(0, NULL, 0, 0u); check("pb_i32_write_decimal", !r.ok && r.value == 0u); }
+    { pb_answer_usize r = pb_i32_write_decimal(1, NULL, 0, 1u); check("pb_i32_write_decimal", !r.ok && r.value == 0u); }
+    { pb_answer_i64 r = pb_i64_read_decimal(NULL, 0, 0u, 0u); check("pb_i64_read_decimal", !r.ok && r.value == 0); }
+    { pb_answer_i64 r = pb_i64_read_decimal(NULL, 0, 1u, 1u); check("pb_i64_read_decimal", !r.ok && r.value == 0); }
+    { pb_answer_usize r = pb_i64_write_decimal(0, NULL, 0, 0u); check("pb_i64_write_decimal", !r.ok && r.value == 0u); }
+    { pb_answer_usize r = pb_i64_write_decimal(1, NULL, 0, 1u); check("pb_i64_write_decimal", !r.ok && r.value == 0u); }
+    { pb_answer_isize r = pb_isize_read_decimal(NULL, 0, 0u, 0u); check("pb_isize_read_decimal", !r.ok && r.value == 0); }
+    { pb_answer_isize r = pb_isize_read_decimal(NULL, 0, 1u, 1u); check("pb_isize_read_decimal", !r.ok && r.value == 0); }
+    { pb_answer_usize r = pb_isize_write_decimal(0, NULL, 0, 0u); check("pb_isize_write_decimal", !r.ok && r.value == 0u); }
+    { pb_answer_usize r = pb_isize_write_decimal(1, NULL, 0, 1u); check("pb_isize_write_decimal", !r.ok && r.value == 0u); }
+    { pb_answer_usize r = pb_bytes_len(NULL, 0, 0u, 0u); check("pb_bytes_len", r.ok && r.value == 0u); }
+    { pb_answer_usize r = pb_bytes_len(NULL, 0, 1u, 1u); check("pb_bytes_len", !r.ok && r.value == 0u); }
+    { pb_answer_bool r = pb_bytes_is_empty(NULL, 0, 0u, 0u); check("pb_bytes_is_empty", r.ok && r.value == true); }
+    { pb_answer_bool r = pb_bytes_is_empty(NULL, 0, 1u, 1u); check("pb_bytes_is_empty", !r.ok && r.value == false); }
+    { pb_answer_u8 r = pb_bytes_get(NULL, 0, 0u, 0u, 0u); check("pb_bytes_get", !r.ok && r.value == 0u); }
+    { pb_answer_u8 r = pb_bytes_get(NULL, 0, 1u, 1u, 1u); check("pb_bytes_get", !r.ok && r.value == 0u); }
+    { pb_answer_u8 r = pb_bytes_first(NULL, 0, 0u, 0u); check("pb_bytes_first", !r.ok && r.value == 0u); }
+    { pb_answer_u8 r = pb_bytes_first(NULL, 0, 1u, 1u); check("pb_bytes_first", !r.ok && r.value == 0u); }
+    { pb_answer_u8 r = pb_bytes_last(NULL, 0, 0u, 0u); check("pb_bytes_last", !r.ok && r.value == 0u); }
+    { pb_answer_u8 r = pb_bytes_last(NULL, 0, 1u, 1u); check("pb_bytes_last", !r.ok && r.value == 0u); }
+    { pb_bytes_range r = pb_bytes_sub_range(NULL, 0, 0u, 0u, 0u, 0u); check("pb_bytes_sub_range", r.ok && r.from == 0u && r.to == 0u); }
+    { pb_bytes_range r = pb_bytes_sub_range(NULL, 0, 1u, 1u, 1u, 1u); check("pb_bytes_sub_range", !r.ok && r.from == 0u && r.to == 0u); }
+    { pb_bytes_split r = pb_bytes_split_at(NULL, 0, 0u, 0u, 0u); check("pb_bytes_split_at", r.ok && r.from == 0u && r.middle == 0u && r.to == 0u); }
+    { pb_bytes_split r = pb_bytes_split_at(NULL, 0, 1u, 1u, 1u); check("pb_bytes_split_at", !r.ok && r.from == 0u && r.middle == 0u && r.to == 0u); }
+    { pb_bytes_first_and_rest r = pb_bytes_split_first(NULL, 0, 0u, 0u); check("pb_bytes_split_first", !r.ok && r.first == 0u && r.from == 0u && r.to == 0u); }
+    { pb_bytes_first_and_rest r = pb_bytes_split_first(NULL, 0, 1u, 1u); check("pb_bytes_split_first", !r.ok && r.first == 0u && r.from == 0u && r.to == 0u); }
+    { pb_bytes_range r = pb_bytes_next_piece(NULL, 0, 0u, 0u, 0u); check("pb_bytes_next_piece", !r.ok && r.from == 0u && r.to == 0u); }
+    { pb_bytes_range r = pb_bytes_next_piece(NULL, 0, 1u, 1u, 1u); check("pb_bytes_next_piece", !r.ok && r.from == 0u && r.to == 0u); }
+    { pb_answer_bool r = pb_bytes_starts_with(NULL, 0, 0u, 0u, NULL, 0); check("pb_bytes_starts_with", r.ok && r.value == true); }
+    { pb_answer_bool r = pb_bytes_starts_with(NULL, 0, 1u, 1u, NULL, 0); check("pb_bytes_starts_with", !r.ok && r.value == false); }
+    { pb_answer_bool r = pb_bytes_ends_with(NULL, 0, 0u, 0u, NULL, 0); check("pb_bytes_ends_with", r.ok && r.value == true); }
+    { pb_answer_bool r = pb_bytes_ends_with(NULL, 0, 1u, 1u, NULL, 0); check("pb_bytes_ends_with", !r.ok && r.value == false); }
+    { pb_answer_bool r = pb_bytes_contains(NULL, 0, 0u, 0u, 0u); check("pb_bytes_contains", r.ok && r.value == false); }
+    { pb_answer_bool r = pb_bytes_contains(NULL, 0, 1u, 1u, 1u); check("pb_bytes_contains", !r.ok && r.value == false); }
+    { pb_answer_bool r = pb_bytes_equal(NULL, 0, 0u, 0u, NULL, 0); check("pb_bytes_equal", r.ok && r.value == true); }
+    { pb_answer_bool r = pb_bytes_equal(NULL, 0, 1u, 1u, NULL, 0); check("pb_bytes_equal", !r.ok && r.value == false); }
+    { bool r = pb_bytes_set(NULL, 0, 0u, 0u, 0u, 0u); check("pb_bytes_set", r == false); }
+    { bool r = pb_bytes_set(NULL, 0, 1u, 1u, 1u, 1u); check("pb_bytes_set", r == false); }
+    { bool r = pb_bytes_reverse(NULL, 0, 0u, 0u); check("pb_bytes_reverse", r == true); }
+    { bool r = pb_bytes_reverse(NULL, 0, 1u, 1u); check("pb_bytes_reverse", r == false); }
+    { bool r = pb_bytes_copy_from(NULL, 0, 0u, 0u, NULL, 0); check("pb_bytes_copy_from", r == true); }
+    { bool r = pb_bytes_copy_from(NULL, 0, 1u, 1u, NULL, 0); check("pb_bytes_copy_from", r == false); }
+    { bool r = pb_bytes_copy_within(NULL, 0, 0u, 0u, 0u); check("pb_bytes_copy_within", r == true); }
+    { bool r = pb_bytes_copy_within(NULL, 0, 1u, 1u, 1u); check("pb_bytes_copy_within", r == false); }
+    { pb_answer_usize r = pb_text_write(NULL, 0, 0u, 0u); check("pb_text_write", !r.ok && r.value == 0u); }
+    { pb_answer_usize r = pb_text_write(NULL, 0, 1u, 1u); check("pb_text_write", !r.ok && r.value == 0u); }
+    { pb_text_read r = pb_text_read_first(NULL, 0, 0u, 0u); check("pb_text_read_first", !r.ok && r.value == 0u && r.length == 0u); }
+    { pb_text_read r = pb_text_read_first(NULL, 0, 1u, 1u); check("pb_text_read_first", !r.ok && r.value == 0u && r.length == 0u); }
+    { pb_text_read r = pb_text_read_last(NULL, 0, 0u, 0u); check("pb_text_read_last", !r.ok && r.value == 0u && r.length == 0u); }
+    { pb_text_read r = pb_text_read_last(NULL, 0, 1u, 1u); check("pb_text_read_last", !r.ok && r.value == 0u && r.length == 0u); }
+    { bool r = pb_text_valid(NULL, 0); check("pb_text_valid", r == true); }
+    { bool r = pb_text_valid(NULL, 0); check("pb_text_valid", r == true); }
+    { pb_answer_usize r = pb_text_count(NULL, 0); check("pb_text_count", r.ok && r.value == 0u); }
+    { pb_answer_usize r = pb_text_count(NULL, 0); check("pb_text_count", r.ok && r.value == 0u); }
+    { pb_answer_bool r = pb_text_is_boundary(NULL, 0, 0u); check("pb_text_is_boundary", r.ok && r.value == true); }
+    { pb_answer_bool r = pb_text_is_boundary(NULL, 0, 1u); check("pb_text_is_boundary", r.ok && r.value == false); }
+    { pb_text_split r = pb_text_split_at(NULL, 0, 0u); check("pb_text_split_at", r.ok && r.middle == 0u && r.end == 0u); }
+    { pb_text_split r = pb_text_split_at(NULL, 0, 1u); check("pb_text_split_at", !r.ok && r.middle == 0u && r.end == 0u); }
+    { bool r = pb_text_is_ascii(NULL, 0); check("pb_text_is_ascii", r == true); }
+    { bool r = pb_text_is_ascii(NULL, 0); check("pb_text_is_ascii", r == true); }
+    { size_t r = pb_text_valid_up_to(NULL, 0); check("pb_text_valid_up_to", r == 0u); }
+    { size_t r = pb_text_valid_up_to(NULL, 0); check("pb_text_valid_up_to", r == 0u); }
+}
+
+static void of_one_slice_twice(void)
+{
+    { const uint8_t same[] = {1, 2, 3}; pb_answer_bool r = pb_bytes_starts_with(same, 3, 0u, 3u, same, 3); check("pb_bytes_starts_with", r.ok && r.value == true); }
+    { const uint8_t same[] = {1, 2, 3}; pb_answer_bool r = pb_bytes_ends_with(same, 3, 0u, 3u, same, 3); check("pb_bytes_ends_with", r.ok && r.value == true); }
+    { const uint8_t same[] = {1, 2, 3}; pb_answer_bool r = pb_bytes_equal(same, 3, 0u, 3u, same, 3); check("pb_bytes_equal", r.ok && r.value == true); }
+}
+
 int main(void)
 {
     of_u8();
@@ -1179,6 +1306,8 @@ int main(void)
     of_isize();
     of_bytes();
     of_text();
+    of_no_bytes();
+    of_one_slice_twice();
     printf("%d answers, %d wrong\n", asked, wrong);
     return wrong != 0;
 }

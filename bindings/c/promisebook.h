@@ -6,16 +6,29 @@
    - of a function that writes and answers a bool, that it answers false, and true otherwise.
    A function that refuses has written nothing.
 
-   A slice is passed as a pointer to its first byte and its length: the pointer is not null, and that many bytes are
-   there, also where the length is 0 (any object's address will do). What is written shares no byte with another argument.
+   A byte is a uint8_t. A slice is passed as a pointer to its first byte and its length: that many bytes are there, and
+   stay there during the call. Of a slice of length 0 nothing is read or written, and its pointer may be NULL. Slices that
+   are only read may overlap, or be the same. A slice that is written shares no byte with another argument.
 
-   Link with libpromisebook.a, which bindings/archive writes: cc program.c libpromisebook.a */
+   No function keeps anything between calls, allocates, waits, or calls another library, and none has memory of its own:
+   each may be called by several threads at once, and by what interrupts another call, as long as no other writes to the
+   bytes that are passed. An interrupt handler saves the registers of SSE2 as it saves the others. A call takes at most
+   PB_STACK_BYTES of stack, its return address among them, and most take 8: docs/STACK.md has each.
+
+   Link with libpromisebook.a, which dist/ has and bindings/archive writes: cc program.c libpromisebook.a */
 #ifndef PROMISEBOOK_H
 #define PROMISEBOOK_H
 
 #include <stdbool.h>
 #include <stddef.h>
 #include <stdint.h>
+
+#define PB_VERSION_MAJOR 0
+#define PB_VERSION_MINOR 2
+#define PB_VERSION_PATCH 0
+#define PB_VERSION "0.2.0"
+
+#define PB_STACK_BYTES 2248
 
 #ifdef __cplusplus
 extern "C" {

@@ -1,13 +1,15 @@
-"""bindings/c/promisebook.h: a declaration of every export, with its promise."""
+"""bindings/c/promisebook.h: a declaration of every export, with its promise. The version is that of the file VERSION, the stack that of docs/STACK.md."""
+import os
 import re
 import textwrap
 
 from bindings.words import about, about_struct
 from declared import SLICE, grouped
 from kinds import BY_NAME
-from templates import filled_file
+from templates import CRATES, filled_file, read
 
 WIDTH = 120
+ROOT = os.path.dirname(CRATES)
 
 
 def c_type(name):
@@ -61,9 +63,18 @@ def structs(found):
     return "\n".join(made.values())
 
 
+def macros():
+    """The version, and the most stack that a call takes: the table's first row."""
+    version = read(os.path.join(ROOT, "VERSION")).strip()
+    parts = dict(zip(("MAJOR", "MINOR", "PATCH"), version.split("."), strict=True))
+    most = re.search(r"^\|---\|---\|\n\| (\d+) \|", read(os.path.join(ROOT, "docs", "STACK.md")), re.M).group(1)
+    lines = ["#define PB_VERSION_%s %s\n" % part for part in parts.items()] + ['#define PB_VERSION "%s"\n' % version, "\n", "#define PB_STACK_BYTES %s\n" % most]
+    return "".join(lines)
+
+
 def header(found):
     groups = []
     for group, exported in grouped(found).items():
         functions = "\n".join(comment(export.sentence) + declaration(export) for export in exported)
         groups.append("/* ---- %s\n" % comment(about(group))[3:] + functions)
-    return filled_file("bindings/promisebook.h.in", STRUCTS=structs(found), FUNCTIONS="\n".join(groups))
+    return filled_file("bindings/promisebook.h.in", MACROS=macros(), STRUCTS=structs(found), FUNCTIONS="\n".join(groups))

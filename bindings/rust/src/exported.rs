@@ -1,5 +1,7 @@
 //! The exports of libpromisebook.a, and a safe call of each that takes slices.
 
+use core::mem::MaybeUninit;
+
 #[repr(C)]
 pub struct Answer<T> {
     pub ok: bool,
@@ -43,7 +45,8 @@ pub struct TextSplit {
     pub end: usize,
 }
 
-// A function of numbers alone asks nothing of its caller.
+// A function of numbers alone asks nothing of its caller. An answer of more than 16 bytes goes through memory: its place is passed first, and comes back. It is
+// declared so, as the archive's code has it, and not left to the compiler, so that inlining finds the same function on both sides.
 unsafe extern "C" {
     pub safe fn pb_u8_wrapping_add(x: u8, y: u8) -> u8;
     pub safe fn pb_u8_wrapping_add_signed(x: u8, y: i8) -> u8;
@@ -358,10 +361,10 @@ unsafe extern "C" {
     fn pb_bytes_get(s: *const u8, s_len: usize, from: usize, to: usize, i: usize) -> Answer<u8>;
     fn pb_bytes_first(s: *const u8, s_len: usize, from: usize, to: usize) -> Answer<u8>;
     fn pb_bytes_last(s: *const u8, s_len: usize, from: usize, to: usize) -> Answer<u8>;
-    fn pb_bytes_sub_range(s: *const u8, s_len: usize, from: usize, to: usize, a: usize, e: usize) -> BytesRange;
-    fn pb_bytes_split_at(s: *const u8, s_len: usize, from: usize, to: usize, m: usize) -> BytesSplit;
-    fn pb_bytes_split_first(s: *const u8, s_len: usize, from: usize, to: usize) -> BytesFirstAndRest;
-    fn pb_bytes_next_piece(s: *const u8, s_len: usize, from: usize, to: usize, n: usize) -> BytesRange;
+    fn pb_bytes_sub_range(answer: *mut BytesRange, s: *const u8, s_len: usize, from: usize, to: usize, a: usize, e: usize) -> *mut BytesRange;
+    fn pb_bytes_split_at(answer: *mut BytesSplit, s: *const u8, s_len: usize, from: usize, to: usize, m: usize) -> *mut BytesSplit;
+    fn pb_bytes_split_first(answer: *mut BytesFirstAndRest, s: *const u8, s_len: usize, from: usize, to: usize) -> *mut BytesFirstAndRest;
+    fn pb_bytes_next_piece(answer: *mut BytesRange, s: *const u8, s_len: usize, from: usize, to: usize, n: usize) -> *mut BytesRange;
     fn pb_bytes_starts_with(s: *const u8, s_len: usize, from: usize, to: usize, needle: *const u8, needle_len: usize) -> Answer<bool>;
     fn pb_bytes_ends_with(s: *const u8, s_len: usize, from: usize, to: usize, needle: *const u8, needle_len: usize) -> Answer<bool>;
     fn pb_bytes_contains(s: *const u8, s_len: usize, from: usize, to: usize, v: u8) -> Answer<bool>;
@@ -378,12 +381,13 @@ unsafe extern "C" {
     fn pb_text_valid(s: *const u8, s_len: usize) -> bool;
     fn pb_text_count(s: *const u8, s_len: usize) -> Answer<usize>;
     fn pb_text_is_boundary(s: *const u8, s_len: usize, at: usize) -> Answer<bool>;
-    fn pb_text_split_at(s: *const u8, s_len: usize, at: usize) -> TextSplit;
+    fn pb_text_split_at(answer: *mut TextSplit, s: *const u8, s_len: usize, at: usize) -> *mut TextSplit;
     fn pb_text_is_ascii(s: *const u8, s_len: usize) -> bool;
     fn pb_text_valid_up_to(s: *const u8, s_len: usize) -> usize;
 }
 
-// A slice is there, with its length, and one that is written is shared with nobody: what these functions ask is what Rust's types say.
+// A slice is there, with its length, and one that is written is shared with nobody: what these functions ask is what Rust's types say. An answer that goes
+// through memory is written whole by the call.
 
 #[inline]
 pub fn u8_read_decimal(s: &[u8], from: usize, to: usize) -> Answer<u8> {
@@ -572,22 +576,38 @@ pub fn bytes_last(s: &[u8], from: usize, to: usize) -> Answer<u8> {
 
 #[inline]
 pub fn bytes_sub_range(s: &[u8], from: usize, to: usize, a: usize, e: usize) -> BytesRange {
-    unsafe { pb_bytes_sub_range(s.as_ptr(), s.len(), from, to, a, e) }
+    let mut answer = MaybeUninit::uninit();
+    unsafe {
+        pb_bytes_sub_range(answer.as_mut_ptr(), s.as_ptr(), s.len(), from, to, a, e);
+        answer.assume_init()
+    }
 }
 
 #[inline]
 pub fn bytes_split_at(s: &[u8], from: usize, to: usize, m: usize) -> BytesSplit {
-    unsafe { pb_bytes_split_at(s.as_ptr(), s.len(), from, to, m) }
+    let mut answer = MaybeUninit::uninit();
+    unsafe {
+        pb_bytes_split_at(answer.as_mut_ptr(), s.as_ptr(), s.len(), from, to, m);
+        answer.assume_init()
+    }
 }
 
 #[inline]
 pub fn bytes_split_first(s: &[u8], from: usize, to: usize) -> BytesFirstAndRest {
-    unsafe { pb_bytes_split_first(s.as_ptr(), s.len(), from, to) }
+    let mut answer = MaybeUninit::uninit();
+    unsafe {
+        pb_bytes_split_first(answer.as_mut_ptr(), s.as_ptr(), s.len(), from, to);
+        answer.assume_init()
+    }
 }
 
 #[inline]
 pub fn bytes_next_piece(s: &[u8], from: usize, to: usize, n: usize) -> BytesRange {
-    unsafe { pb_bytes_next_piece(s.as_ptr(), s.len(), from, to, n) }
+    let mut answer = MaybeUninit::uninit();
+    unsafe {
+        pb_bytes_next_piece(answer.as_mut_ptr(), s.as_ptr(), s.len(), from, to, n);
+        answer.assume_init()
+    }
 }
 
 #[inline]
@@ -662,7 +682,11 @@ pub fn text_is_boundary(s: &[u8], at: usize) -> Answer<bool> {
 
 #[inline]
 pub fn text_split_at(s: &[u8], at: usize) -> TextSplit {
-    unsafe { pb_text_split_at(s.as_ptr(), s.len(), at) }
+    let mut answer = MaybeUninit::uninit();
+    unsafe {
+        pb_text_split_at(answer.as_mut_ptr(), s.as_ptr(), s.len(), at);
+        answer.assume_init()
+    }
 }
 
 #[inline]

@@ -1,4 +1,4 @@
-// The arguments as one question: joined by single spaces.
+// The arguments as one question: joined by single spaces. A person asks so, and is told on standard error why a question has no answer.
 use libc::STDOUT_FILENO;
 use questions::answers;
 
@@ -36,6 +36,11 @@ fn one_line(ok: bool, line: &[u8]) {
     let end = one_answer(ok, line, &mut out);
     if end <= 131072 {
         io::write_all(STDOUT_FILENO, &out[0..end]);
+    }
+    if ok {
+        reasons::tell(line);
+    } else {
+        reasons::tell_too_long();
     }
 }
 

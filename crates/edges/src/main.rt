@@ -1,5 +1,6 @@
 // Every operation on integers of 16, 32 and 64 bits and the size type, at the edges of its first argument crossed with those of its second.
-// A line for each operation and first argument holds the answers for all second arguments. generate/edges.py works out crates/edges/stdout from meanings of their own.
+// A line for each operation and first argument holds the answers for all second arguments. generate/edges.py works out what it must print, from
+// meanings of their own.
 ghost use Prim.Native.Nat.{_<_, _≤_};
 
 // ---- the arguments, as bits

@@ -435,8 +435,8 @@ pub fn three(first: u64, second: u64, third: u64) -> Numbers {
     }
 }
 
-// The parts of an answer by their bits, those of a first number of 128 bits apart. A truth is 0 or 1, a comparison one of the three below; of bytes nothing stands
-// here.
+// The parts of an answer by their bits, those of a first number of 128 bits apart. A truth is 0 or 1, a comparison one of the three below; of bytes nothing
+// stands here.
 pub struct Answer {
     pub ok: bool,
     pub first: u64,

@@ -1,5 +1,5 @@
-// A number's bytes. Lowest first, what vstd promises, kept: each function's contract is vstd's shifts and masks (vstd_number_bytes, specs/Bytes.antt), and its
-// body a call of ours. Highest first, of which vstd promises nothing, the contracts are those of the operations themselves.
+// A number's bytes. Lowest first, what vstd promises, kept: each function's contract is vstd's shifts and masks (vstd_number_bytes, specs/Bytes.antt), and
+// its body a call of ours. Highest first, of which vstd promises nothing, the contracts are those of the operations themselves.
 ghost use lib.IntN.{pos};
 ghost use Rattle.theory_answers.specs.Answer.{Answers};
 ghost use Rattle.theory_lists.specs.Written.{Writes};

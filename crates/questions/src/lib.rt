@@ -1,8 +1,8 @@
-// Questions about the library's operations, each a line, and their answers (docs/ASK.md has the protocol). What can be asked, and what each takes and answers, are
-// the tables of `numbered`.
+// Questions about the library's operations, each a line, and their answers (docs/ASK.md has the protocol). What can be asked, and what each takes and answers,
+// are the tables of `numbered`.
 pub mod answers;
-mod arguments;
-mod names;
+pub mod arguments;
+pub mod names;
 
 use answers::Said;
 use numbered::Answer;

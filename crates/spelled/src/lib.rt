@@ -1,5 +1,5 @@
-// How questions and answers spell what operations take and answer: numbers of each kind by the functions that its face exports (written by generate/), bytes, and
-// the words for a truth and a comparison. Each writer answers the place behind what it wrote. Where there is no room it writes nothing.
+// How questions and answers spell what operations take and answer: numbers of each kind by the functions that its face exports (written by generate/), bytes,
+// and the words for a truth and a comparison. Each writer answers the place behind what it wrote. Where there is no room it writes nothing.
 pub mod hex;
 mod of_i16;
 mod of_i32;

@@ -1,4 +1,5 @@
--- Where a test holds, among the places from f up to and without t: at each of them, at one, first and last. Everything that looks for something asks one of these.
+-- Where a test holds, among the places from f up to and without t: at each of them, at one, first and last. Everything that looks for something asks one of
+-- these.
 use mathlib.Core.Path.{_≡_}
 use mathlib.Core.Bool.{Bool, true, false, _||_}
 use mathlib.Core.List.{List, [], _∷_}
