@@ -2,6 +2,7 @@
 import os
 import textwrap
 
+from bindings.cited import cited
 from bindings.rust_answers import is_struct
 from bindings.rust_bodies import body
 from bindings.rust_examples import example
@@ -20,8 +21,13 @@ def documented(lines):
     return "".join(("/// " + line).rstrip() + "\n" for line in lines)
 
 
+def wrapped(text):
+    return textwrap.wrap(text, WIDTH, break_on_hyphens=False, break_long_words=False)
+
+
 def function_text(function):
-    comments = documented([*textwrap.wrap(function.sentence, WIDTH, break_on_hyphens=False), "", "```", *example(function), "```"])
+    citation = "Cited by %s." % "; ".join("%s %s" % pair for pair in cited(function.export))
+    comments = documented([*wrapped(function.sentence), "", "```", *example(function), "```", "", *wrapped(citation)])
     answer = function.answer.type
     head = "pub fn %s(%s)%s {" % (function.name, ", ".join("%s: %s" % pair for pair in function.parameters), " -> " + answer if answer != "()" else "")
     return "%s#[inline]\n%s%s\n%s}\n" % (comments, "#[must_use]\n" * must_use(answer), head, "".join("    %s\n" % line for line in body(function)))

@@ -9,6 +9,10 @@ use core::ops::Range;
 /// use promisebook::bytes;
 /// assert_eq!(bytes::len(&[20, 30, 40, 50]), 4);
 /// ```
+///
+/// Cited by rows D65; clause vstd_slices/Promises.Len, theory_lists/Part.part; contract
+/// promisebook_slices::pb_bytes_len; law vstd_slices/Kept.len-kept; pinned by vstd_slices/Pinned.len-pinned;
+/// refused slices/len.counts_from_the_start, is_where_the_part_begins.
 #[inline]
 #[must_use]
 pub fn len(s: &[u8]) -> usize {
@@ -24,6 +28,10 @@ pub fn len(s: &[u8]) -> usize {
 /// assert_eq!(bytes::len_in(s, 5..1), None);
 /// assert_eq!(bytes::len_in(s, 1..7), None);
 /// ```
+///
+/// Cited by rows D65; clause vstd_slices/Promises.Len, theory_lists/Part.part; contract
+/// promisebook_slices::pb_bytes_len; law vstd_slices/Kept.len-kept; pinned by vstd_slices/Pinned.len-pinned;
+/// refused slices/len.counts_from_the_start, is_where_the_part_begins.
 #[inline]
 #[must_use]
 pub fn len_in(s: &[u8], part: Range<usize>) -> Option<usize> {
@@ -38,6 +46,10 @@ pub fn len_in(s: &[u8], part: Range<usize>) -> Option<usize> {
 /// assert!(bytes::is_empty(&[]));
 /// assert!(!bytes::is_empty(&[30]));
 /// ```
+///
+/// Cited by rows D66; clause vstd_slices/Promises.IsEmpty, theory_lists/Part.part; contract
+/// promisebook_slices::pb_bytes_is_empty; law vstd_slices/Kept.is-empty-kept; pinned by
+/// vstd_slices/Pinned.is-empty-pinned; refused slices/is_empty.only_at_the_start, other_way_round.
 #[inline]
 #[must_use]
 pub fn is_empty(s: &[u8]) -> bool {
@@ -53,6 +65,10 @@ pub fn is_empty(s: &[u8]) -> bool {
 /// assert_eq!(bytes::is_empty_in(s, 2..3), Some(false));
 /// assert_eq!(bytes::is_empty_in(s, 7..7), None);
 /// ```
+///
+/// Cited by rows D66; clause vstd_slices/Promises.IsEmpty, theory_lists/Part.part; contract
+/// promisebook_slices::pb_bytes_is_empty; law vstd_slices/Kept.is-empty-kept; pinned by
+/// vstd_slices/Pinned.is-empty-pinned; refused slices/is_empty.only_at_the_start, other_way_round.
 #[inline]
 #[must_use]
 pub fn is_empty_in(s: &[u8], part: Range<usize>) -> Option<bool> {
@@ -68,6 +84,13 @@ pub fn is_empty_in(s: &[u8], part: Range<usize>) -> Option<bool> {
 /// assert_eq!(bytes::get(s, 1), Some(40));
 /// assert_eq!(bytes::get(s, 3), None);
 /// ```
+///
+/// Cited by rows D1, D2, D3, D4, D6, D22, D24, D25, D69, D70; clause vstd_slices/Promises.Get,
+/// vstd_slices/Slices.Got, vstd_slices/Promises.SubRange, vstd_slices/Slices.Subrange; contract
+/// promisebook_slices::pb_bytes_get; law vstd_slices/Promised.get-promised, vstd_slices/Kept.get-kept,
+/// vstd_slices/Promised.sub-range-promised, vstd_slices/Kept.sub-range-kept; pinned by
+/// vstd_slices/Pinned.get-pinned, sub-range-pinned; refused slices/get.bound_from_the_start, one_past_the_end,
+/// vstd_slices/get.last_element_refused.
 #[inline]
 #[must_use]
 pub fn get(s: &[u8], i: usize) -> Option<u8> {
@@ -84,6 +107,13 @@ pub fn get(s: &[u8], i: usize) -> Option<u8> {
 /// assert_eq!(bytes::get_in(s, 2..5, 1), Some(40));
 /// assert_eq!(bytes::get_in(s, 2..5, 3), None);
 /// ```
+///
+/// Cited by rows D1, D2, D3, D4, D6, D22, D24, D25, D69, D70; clause vstd_slices/Promises.Get,
+/// vstd_slices/Slices.Got, vstd_slices/Promises.SubRange, vstd_slices/Slices.Subrange; contract
+/// promisebook_slices::pb_bytes_get; law vstd_slices/Promised.get-promised, vstd_slices/Kept.get-kept,
+/// vstd_slices/Promised.sub-range-promised, vstd_slices/Kept.sub-range-kept; pinned by
+/// vstd_slices/Pinned.get-pinned, sub-range-pinned; refused slices/get.bound_from_the_start, one_past_the_end,
+/// vstd_slices/get.last_element_refused.
 #[inline]
 #[must_use]
 pub fn get_in(s: &[u8], part: Range<usize>, i: usize) -> Option<u8> {
@@ -98,6 +128,12 @@ pub fn get_in(s: &[u8], part: Range<usize>, i: usize) -> Option<u8> {
 /// assert_eq!(bytes::first(&[30, 40, 50]), Some(30));
 /// assert_eq!(bytes::first(&[]), None);
 /// ```
+///
+/// Cited by rows D38, D39, D43; clause vstd_slices/Promises.First, vstd_slices/Slices.First,
+/// vstd_slices/Promises.Last, vstd_slices/Slices.Last; contract promisebook_slices::pb_bytes_first; law
+/// vstd_slices/Promised.first-promised, vstd_slices/Kept.first-kept, vstd_slices/Promised.last-promised,
+/// vstd_slices/Kept.last-kept; pinned by vstd_slices/Pinned.first-pinned, last-pinned; refused
+/// slices/first.is_the_byte_after, of_the_slice, promisebook_slices/first.last.
 #[inline]
 #[must_use]
 pub fn first(s: &[u8]) -> Option<u8> {
@@ -113,6 +149,12 @@ pub fn first(s: &[u8]) -> Option<u8> {
 /// assert_eq!(bytes::first_in(s, 2..5), Some(30));
 /// assert_eq!(bytes::first_in(s, 2..2), None);
 /// ```
+///
+/// Cited by rows D38, D39, D43; clause vstd_slices/Promises.First, vstd_slices/Slices.First,
+/// vstd_slices/Promises.Last, vstd_slices/Slices.Last; contract promisebook_slices::pb_bytes_first; law
+/// vstd_slices/Promised.first-promised, vstd_slices/Kept.first-kept, vstd_slices/Promised.last-promised,
+/// vstd_slices/Kept.last-kept; pinned by vstd_slices/Pinned.first-pinned, last-pinned; refused
+/// slices/first.is_the_byte_after, of_the_slice, promisebook_slices/first.last.
 #[inline]
 #[must_use]
 pub fn first_in(s: &[u8], part: Range<usize>) -> Option<u8> {
@@ -127,6 +169,12 @@ pub fn first_in(s: &[u8], part: Range<usize>) -> Option<u8> {
 /// assert_eq!(bytes::last(&[30, 40, 50]), Some(50));
 /// assert_eq!(bytes::last(&[]), None);
 /// ```
+///
+/// Cited by rows D40, D41, D43; clause vstd_slices/Promises.Last, vstd_slices/Slices.Last,
+/// vstd_slices/Promises.First, vstd_slices/Slices.First; contract promisebook_slices::pb_bytes_last; law
+/// vstd_slices/Promised.last-promised, vstd_slices/Kept.last-kept, vstd_slices/Promised.first-promised,
+/// vstd_slices/Kept.first-kept; pinned by vstd_slices/Pinned.last-pinned, first-pinned; refused
+/// slices/last.is_before_the_part, is_the_one_before.
 #[inline]
 #[must_use]
 pub fn last(s: &[u8]) -> Option<u8> {
@@ -142,6 +190,12 @@ pub fn last(s: &[u8]) -> Option<u8> {
 /// assert_eq!(bytes::last_in(s, 2..5), Some(50));
 /// assert_eq!(bytes::last_in(s, 2..2), None);
 /// ```
+///
+/// Cited by rows D40, D41, D43; clause vstd_slices/Promises.Last, vstd_slices/Slices.Last,
+/// vstd_slices/Promises.First, vstd_slices/Slices.First; contract promisebook_slices::pb_bytes_last; law
+/// vstd_slices/Promised.last-promised, vstd_slices/Kept.last-kept, vstd_slices/Promised.first-promised,
+/// vstd_slices/Kept.first-kept; pinned by vstd_slices/Pinned.last-pinned, first-pinned; refused
+/// slices/last.is_before_the_part, is_the_one_before.
 #[inline]
 #[must_use]
 pub fn last_in(s: &[u8], part: Range<usize>) -> Option<u8> {
@@ -157,6 +211,14 @@ pub fn last_in(s: &[u8], part: Range<usize>) -> Option<u8> {
 /// assert_eq!(bytes::sub_range(s, 2..4), Some(&[40, 50][..]));
 /// assert_eq!(bytes::sub_range(s, 2..6), None);
 /// ```
+///
+/// Cited by rows D10, D11, D12, D13, D22, D25, D72, D73; clause vstd_slices/Promises.SubRange,
+/// vstd_slices/Slices.Subrange, vstd_slices/Promises.Get, vstd_slices/Slices.Got; contract
+/// promisebook_slices::pb_bytes_sub_range; law vstd_slices/Promised.sub-range-promised,
+/// vstd_slices/Kept.sub-range-kept, vstd_slices/Promised.get-promised, vstd_slices/Kept.get-kept; pinned by
+/// vstd_slices/Pinned.sub-range-pinned, get-pinned; refused slices_parts/sub_range.begins_from_the_start,
+/// may_leave_the_part, may_run_backwards, slices_parts/sub_slice.is_empty, up_to_the_end,
+/// vstd_slices/places.begin_left_open, end_left_open.
 #[inline]
 #[must_use]
 pub fn sub_range(s: &[u8], range: Range<usize>) -> Option<&[u8]> {
@@ -173,6 +235,14 @@ pub fn sub_range(s: &[u8], range: Range<usize>) -> Option<&[u8]> {
 /// assert_eq!(bytes::sub_range_in(s, 1..6, 2..4), Some(3..5));
 /// assert_eq!(bytes::sub_range_in(s, 1..6, 2..6), None);
 /// ```
+///
+/// Cited by rows D10, D11, D12, D13, D22, D25, D72, D73; clause vstd_slices/Promises.SubRange,
+/// vstd_slices/Slices.Subrange, vstd_slices/Promises.Get, vstd_slices/Slices.Got; contract
+/// promisebook_slices::pb_bytes_sub_range; law vstd_slices/Promised.sub-range-promised,
+/// vstd_slices/Kept.sub-range-kept, vstd_slices/Promised.get-promised, vstd_slices/Kept.get-kept; pinned by
+/// vstd_slices/Pinned.sub-range-pinned, get-pinned; refused slices_parts/sub_range.begins_from_the_start,
+/// may_leave_the_part, may_run_backwards, slices_parts/sub_slice.is_empty, up_to_the_end,
+/// vstd_slices/places.begin_left_open, end_left_open.
 #[inline]
 #[must_use]
 pub fn sub_range_in(s: &[u8], part: Range<usize>, range: Range<usize>) -> Option<Range<usize>> {
@@ -188,6 +258,11 @@ pub fn sub_range_in(s: &[u8], part: Range<usize>, range: Range<usize>) -> Option
 /// assert_eq!(bytes::split_at(s, 2), Some((&[20, 30][..], &[40, 50, 60][..])));
 /// assert_eq!(bytes::split_at(s, 6), None);
 /// ```
+///
+/// Cited by rows D45, D46, D47, D48, D50, D51; clause vstd_slices/Promises.SplitAt, vstd_slices/Slices.SplitAt;
+/// contract promisebook_slices::pb_bytes_split_at; law vstd_slices/Promised.split-at-promised,
+/// vstd_slices/Kept.split-at-kept; pinned by vstd_slices/Pinned.split-at-pinned; refused
+/// slices_parts/split_at.from_the_start, may_leave_the_part.
 #[inline]
 #[must_use]
 pub fn split_at(s: &[u8], m: usize) -> Option<(&[u8], &[u8])> {
@@ -204,6 +279,11 @@ pub fn split_at(s: &[u8], m: usize) -> Option<(&[u8], &[u8])> {
 /// assert_eq!(bytes::split_at_in(s, 1..6, 2), Some((1..3, 3..6)));
 /// assert_eq!(bytes::split_at_in(s, 1..6, 6), None);
 /// ```
+///
+/// Cited by rows D45, D46, D47, D48, D50, D51; clause vstd_slices/Promises.SplitAt, vstd_slices/Slices.SplitAt;
+/// contract promisebook_slices::pb_bytes_split_at; law vstd_slices/Promised.split-at-promised,
+/// vstd_slices/Kept.split-at-kept; pinned by vstd_slices/Pinned.split-at-pinned; refused
+/// slices_parts/split_at.from_the_start, may_leave_the_part.
 #[inline]
 #[must_use]
 pub fn split_at_in(s: &[u8], part: Range<usize>, m: usize) -> Option<(Range<usize>, Range<usize>)> {
@@ -218,6 +298,11 @@ pub fn split_at_in(s: &[u8], part: Range<usize>, m: usize) -> Option<(Range<usiz
 /// assert_eq!(bytes::split_first(&[30, 40, 50]), Some((30, &[40, 50][..])));
 /// assert_eq!(bytes::split_first(&[]), None);
 /// ```
+///
+/// Cited by rows D52, D53, D54, D55; clause vstd_slices/Promises.SplitFirst, vstd_slices/Slices.SplitFirst;
+/// contract promisebook_slices::pb_bytes_split_first; law vstd_slices/Promised.split-first-promised,
+/// vstd_slices/Kept.split-first-kept; pinned by vstd_slices/Pinned.split-first-pinned; refused
+/// slices/split_first.first_of_the_slice, skips_one, vstd_slices/split_first.rest_with_the_first.
 #[inline]
 #[must_use]
 pub fn split_first(s: &[u8]) -> Option<(u8, &[u8])> {
@@ -234,6 +319,11 @@ pub fn split_first(s: &[u8]) -> Option<(u8, &[u8])> {
 /// assert_eq!(bytes::split_first_in(s, 2..5), Some((30, 3..5)));
 /// assert_eq!(bytes::split_first_in(s, 2..2), None);
 /// ```
+///
+/// Cited by rows D52, D53, D54, D55; clause vstd_slices/Promises.SplitFirst, vstd_slices/Slices.SplitFirst;
+/// contract promisebook_slices::pb_bytes_split_first; law vstd_slices/Promised.split-first-promised,
+/// vstd_slices/Kept.split-first-kept; pinned by vstd_slices/Pinned.split-first-pinned; refused
+/// slices/split_first.first_of_the_slice, skips_one, vstd_slices/split_first.rest_with_the_first.
 #[inline]
 #[must_use]
 pub fn split_first_in(s: &[u8], part: Range<usize>) -> Option<(u8, Range<usize>)> {
@@ -251,6 +341,11 @@ pub fn split_first_in(s: &[u8], part: Range<usize>) -> Option<(u8, Range<usize>)
 /// assert_eq!(bytes::next_piece(&[], 4), None);
 /// assert_eq!(bytes::next_piece(&[10, 20, 30, 40, 50, 60], 0), None);
 /// ```
+///
+/// Cited by rows D61, D63; clause vstd_slices/Promises.NextPiece, vstd_slices/Slices.Chunks; contract
+/// promisebook_slices::pb_bytes_next_piece; law vstd_slices/Promised.next-piece-promised,
+/// vstd_slices/Kept.next-piece-kept; pinned by vstd_slices/Pinned.next-piece-pinned; refused
+/// slices_parts/next_piece.none_of_one, one_more.
 #[inline]
 #[must_use]
 pub fn next_piece(s: &[u8], n: usize) -> Option<(&[u8], &[u8])> {
@@ -270,6 +365,11 @@ pub fn next_piece(s: &[u8], n: usize) -> Option<(&[u8], &[u8])> {
 /// assert_eq!(bytes::next_piece_in(s, 6..6, 4), None);
 /// assert_eq!(bytes::next_piece_in(s, 0..6, 0), None);
 /// ```
+///
+/// Cited by rows D61, D63; clause vstd_slices/Promises.NextPiece, vstd_slices/Slices.Chunks; contract
+/// promisebook_slices::pb_bytes_next_piece; law vstd_slices/Promised.next-piece-promised,
+/// vstd_slices/Kept.next-piece-kept; pinned by vstd_slices/Pinned.next-piece-pinned; refused
+/// slices_parts/next_piece.none_of_one, one_more.
 #[inline]
 #[must_use]
 pub fn next_piece_in(s: &[u8], part: Range<usize>, n: usize) -> Option<(Range<usize>, Range<usize>)> {
@@ -285,6 +385,11 @@ pub fn next_piece_in(s: &[u8], part: Range<usize>, n: usize) -> Option<(Range<us
 /// assert!(bytes::starts_with(s, &[20, 30]));
 /// assert!(!bytes::starts_with(s, &[30]));
 /// ```
+///
+/// Cited by rows D18, D19; clause vstd_slices/Promises.StartsWith, vstd_slices/Slices.FalseWhereLonger,
+/// StartsWith; contract promisebook_slices::pb_bytes_starts_with; law vstd_slices/Promised.starts-with-promised,
+/// vstd_slices/Kept.starts-with-longer-kept, starts-with-kept; pinned by vstd_slices/Pinned.starts-with-pinned;
+/// refused slices_compare/starts_with.after_the_front, whole_part.
 #[inline]
 #[must_use]
 pub fn starts_with(s: &[u8], needle: &[u8]) -> bool {
@@ -300,6 +405,11 @@ pub fn starts_with(s: &[u8], needle: &[u8]) -> bool {
 /// assert_eq!(bytes::starts_with_in(s, 1..4, &[30]), Some(false));
 /// assert_eq!(bytes::starts_with_in(s, 1..7, &[]), None);
 /// ```
+///
+/// Cited by rows D18, D19; clause vstd_slices/Promises.StartsWith, vstd_slices/Slices.FalseWhereLonger,
+/// StartsWith; contract promisebook_slices::pb_bytes_starts_with; law vstd_slices/Promised.starts-with-promised,
+/// vstd_slices/Kept.starts-with-longer-kept, starts-with-kept; pinned by vstd_slices/Pinned.starts-with-pinned;
+/// refused slices_compare/starts_with.after_the_front, whole_part.
 #[inline]
 #[must_use]
 pub fn starts_with_in(s: &[u8], part: Range<usize>, needle: &[u8]) -> Option<bool> {
@@ -315,6 +425,11 @@ pub fn starts_with_in(s: &[u8], part: Range<usize>, needle: &[u8]) -> Option<boo
 /// assert!(bytes::ends_with(s, &[30, 40]));
 /// assert!(!bytes::ends_with(s, &[50]));
 /// ```
+///
+/// Cited by rows D20, D21; clause vstd_slices/Promises.EndsWith, vstd_slices/Slices.FalseWhereLonger, EndsWith;
+/// contract promisebook_slices::pb_bytes_ends_with; law vstd_slices/Promised.ends-with-promised,
+/// vstd_slices/Kept.ends-with-longer-kept, ends-with-kept; pinned by vstd_slices/Pinned.ends-with-pinned; refused
+/// slices_compare/ends_with.after_the_front, whole_part, vstd_slices/ends_with.compared_from_the_front.
 #[inline]
 #[must_use]
 pub fn ends_with(s: &[u8], needle: &[u8]) -> bool {
@@ -330,6 +445,11 @@ pub fn ends_with(s: &[u8], needle: &[u8]) -> bool {
 /// assert_eq!(bytes::ends_with_in(s, 1..4, &[50]), Some(false));
 /// assert_eq!(bytes::ends_with_in(s, 1..7, &[]), None);
 /// ```
+///
+/// Cited by rows D20, D21; clause vstd_slices/Promises.EndsWith, vstd_slices/Slices.FalseWhereLonger, EndsWith;
+/// contract promisebook_slices::pb_bytes_ends_with; law vstd_slices/Promised.ends-with-promised,
+/// vstd_slices/Kept.ends-with-longer-kept, ends-with-kept; pinned by vstd_slices/Pinned.ends-with-pinned; refused
+/// slices_compare/ends_with.after_the_front, whole_part, vstd_slices/ends_with.compared_from_the_front.
 #[inline]
 #[must_use]
 pub fn ends_with_in(s: &[u8], part: Range<usize>, needle: &[u8]) -> Option<bool> {
@@ -345,6 +465,11 @@ pub fn ends_with_in(s: &[u8], part: Range<usize>, needle: &[u8]) -> Option<bool>
 /// assert!(bytes::contains(s, 40));
 /// assert!(!bytes::contains(s, 50));
 /// ```
+///
+/// Cited by rows D33; clause vstd_slices/Promises.Contains, theory_lists/Part.Has; contract
+/// promisebook_slices::pb_bytes_contains; law vstd_slices/Kept.contains-kept; pinned by
+/// vstd_slices/Pinned.contains-pinned; refused slices_compare/contains.after_the_part, before_the_part,
+/// vstd_slices/contains.silent_where_refused, slices_whole/has.always, every_byte, only_in_the_first_block.
 #[inline]
 #[must_use]
 pub fn contains(s: &[u8], v: u8) -> bool {
@@ -360,6 +485,11 @@ pub fn contains(s: &[u8], v: u8) -> bool {
 /// assert_eq!(bytes::contains_in(s, 1..4, 50), Some(false));
 /// assert_eq!(bytes::contains_in(s, 4..1, 40), None);
 /// ```
+///
+/// Cited by rows D33; clause vstd_slices/Promises.Contains, theory_lists/Part.Has; contract
+/// promisebook_slices::pb_bytes_contains; law vstd_slices/Kept.contains-kept; pinned by
+/// vstd_slices/Pinned.contains-pinned; refused slices_compare/contains.after_the_part, before_the_part,
+/// vstd_slices/contains.silent_where_refused, slices_whole/has.always, every_byte, only_in_the_first_block.
 #[inline]
 #[must_use]
 pub fn contains_in(s: &[u8], part: Range<usize>, v: u8) -> Option<bool> {
@@ -375,6 +505,11 @@ pub fn contains_in(s: &[u8], part: Range<usize>, v: u8) -> Option<bool> {
 /// assert!(bytes::equal(s, &[20, 30]));
 /// assert!(!bytes::equal(s, &[20, 30, 40]));
 /// ```
+///
+/// Cited by rows D32; clause vstd_slices/Promises.Equal, vstd_slices/Slices.SameElements; contract
+/// promisebook_slices::pb_bytes_equal; law vstd_slices/Promised.equal-promised, vstd_slices/Kept.equal-kept;
+/// pinned by vstd_slices/Pinned.equal-pinned; refused slices_compare/equal.up_to_the_end, with_itself,
+/// slices_whole/same.any_byte_alike, blocks_unread, last_block_unread, never.
 #[inline]
 #[must_use]
 pub fn equal(s: &[u8], other: &[u8]) -> bool {
@@ -390,6 +525,11 @@ pub fn equal(s: &[u8], other: &[u8]) -> bool {
 /// assert_eq!(bytes::equal_in(s, 1..3, &[20, 30, 40]), Some(false));
 /// assert_eq!(bytes::equal_in(s, 1..7, &[]), None);
 /// ```
+///
+/// Cited by rows D32; clause vstd_slices/Promises.Equal, vstd_slices/Slices.SameElements; contract
+/// promisebook_slices::pb_bytes_equal; law vstd_slices/Promised.equal-promised, vstd_slices/Kept.equal-kept;
+/// pinned by vstd_slices/Pinned.equal-pinned; refused slices_compare/equal.up_to_the_end, with_itself,
+/// slices_whole/same.any_byte_alike, blocks_unread, last_block_unread, never.
 #[inline]
 #[must_use]
 pub fn equal_in(s: &[u8], part: Range<usize>, other: &[u8]) -> Option<bool> {
@@ -409,6 +549,13 @@ pub fn equal_in(s: &[u8], part: Range<usize>, other: &[u8]) -> Option<bool> {
 /// assert_eq!(bytes::set(&mut s, 3, 7), None);
 /// assert_eq!(s, [30, 40, 50]);
 /// ```
+///
+/// Cited by rows D5, D7, D8, D9, D23, D26, D27, D42, D44, D56, D67, D68; clause vstd_slices/Promises.Set,
+/// vstd_slices/Slices.Updated, vstd_slices/Promises.CopyFrom, vstd_slices/Slices.PartReplaced; contract
+/// promisebook_slices::pb_bytes_set; law vstd_slices/Promised.set-promised, vstd_slices/Kept.set-kept,
+/// vstd_slices/Promised.copy-from-promised, vstd_slices/Kept.copy-from-kept; pinned by
+/// vstd_slices/Pinned.set-pinned, copy-from-pinned; refused slices_mut/set.last_instead, one_past_the_end,
+/// vstd_slices/set.refusal_leaves_anything.
 #[inline]
 #[must_use]
 pub fn set(s: &mut [u8], i: usize, v: u8) -> Option<()> {
@@ -427,6 +574,13 @@ pub fn set(s: &mut [u8], i: usize, v: u8) -> Option<()> {
 /// assert_eq!(bytes::set_in(&mut s, 2..5, 3, 7), None);
 /// assert_eq!(s, [10, 20, 30, 40, 50, 60]);
 /// ```
+///
+/// Cited by rows D5, D7, D8, D9, D23, D26, D27, D42, D44, D56, D67, D68; clause vstd_slices/Promises.Set,
+/// vstd_slices/Slices.Updated, vstd_slices/Promises.CopyFrom, vstd_slices/Slices.PartReplaced; contract
+/// promisebook_slices::pb_bytes_set; law vstd_slices/Promised.set-promised, vstd_slices/Kept.set-kept,
+/// vstd_slices/Promised.copy-from-promised, vstd_slices/Kept.copy-from-kept; pinned by
+/// vstd_slices/Pinned.set-pinned, copy-from-pinned; refused slices_mut/set.last_instead, one_past_the_end,
+/// vstd_slices/set.refusal_leaves_anything.
 #[inline]
 #[must_use]
 pub fn set_in(s: &mut [u8], part: Range<usize>, i: usize, v: u8) -> Option<()> {
@@ -441,6 +595,13 @@ pub fn set_in(s: &mut [u8], part: Range<usize>, i: usize, v: u8) -> Option<()> {
 /// bytes::reverse(&mut s);
 /// assert_eq!(s, [50, 40, 30, 20]);
 /// ```
+///
+/// Cited by rows D14, D15, D16, D34; clause vstd_slices/Promises.CopyFrom, Reverse, CopyWithin,
+/// vstd_slices/Slices.PartReplaced, Reversed; contract promisebook_slices::pb_bytes_reverse; law
+/// vstd_slices/Promised.copy-from-promised, reverse-promised, copy-within-promised,
+/// vstd_slices/Kept.copy-from-kept, reverse-kept; pinned by vstd_slices/Pinned.copy-from-pinned, reverse-pinned,
+/// copy-within-pinned; refused slices_reverse/reverse.back_block_twice, blocks_overlap, from_the_start,
+/// one_byte_everywhere, two_left_as_they_are.
 #[inline]
 pub fn reverse(s: &mut [u8]) {
     exported::bytes_reverse(s, 0, s.len());
@@ -457,6 +618,13 @@ pub fn reverse(s: &mut [u8]) {
 /// assert_eq!(bytes::reverse_in(&mut s, 1..7), None);
 /// assert_eq!(s, [10, 20, 30, 40, 50, 60]);
 /// ```
+///
+/// Cited by rows D14, D15, D16, D34; clause vstd_slices/Promises.CopyFrom, Reverse, CopyWithin,
+/// vstd_slices/Slices.PartReplaced, Reversed; contract promisebook_slices::pb_bytes_reverse; law
+/// vstd_slices/Promised.copy-from-promised, reverse-promised, copy-within-promised,
+/// vstd_slices/Kept.copy-from-kept, reverse-kept; pinned by vstd_slices/Pinned.copy-from-pinned, reverse-pinned,
+/// copy-within-pinned; refused slices_reverse/reverse.back_block_twice, blocks_overlap, from_the_start,
+/// one_byte_everywhere, two_left_as_they_are.
 #[inline]
 #[must_use]
 pub fn reverse_in(s: &mut [u8], part: Range<usize>) -> Option<()> {
@@ -474,6 +642,15 @@ pub fn reverse_in(s: &mut [u8], part: Range<usize>) -> Option<()> {
 /// assert_eq!(bytes::copy_from(&mut s, &[7, 8]), None);
 /// assert_eq!(s, [20, 30, 40]);
 /// ```
+///
+/// Cited by rows D14, D15, D16, D17, D23, D26, D27, D49, D56, D57, D58; clause vstd_slices/Promises.CopyFrom,
+/// Reverse, CopyWithin, vstd_slices/Slices.PartReplaced, Reversed, vstd_slices/Promises.Set,
+/// vstd_slices/Slices.Updated; contract promisebook_slices::pb_bytes_copy_from; law
+/// vstd_slices/Promised.copy-from-promised, reverse-promised, copy-within-promised,
+/// vstd_slices/Kept.copy-from-kept, reverse-kept, vstd_slices/Promised.set-promised, vstd_slices/Kept.set-kept;
+/// pinned by vstd_slices/Pinned.copy-from-pinned, reverse-pinned, copy-within-pinned, set-pinned; refused
+/// slices_copy/copy_from.blocks_in_one_place, first_block_and_last, longer_is_cut, to_the_start,
+/// vstd_slices/part_replaced.byte_behind_left_open, promisebook_slices/copy_from.before_and_after.
 #[inline]
 #[must_use]
 pub fn copy_from(s: &mut [u8], other: &[u8]) -> Option<()> {
@@ -492,6 +669,15 @@ pub fn copy_from(s: &mut [u8], other: &[u8]) -> Option<()> {
 /// assert_eq!(bytes::copy_from_in(&mut s, 1..4, &[7, 8]), None);
 /// assert_eq!(s, [10, 20, 30, 40, 50, 60]);
 /// ```
+///
+/// Cited by rows D14, D15, D16, D17, D23, D26, D27, D49, D56, D57, D58; clause vstd_slices/Promises.CopyFrom,
+/// Reverse, CopyWithin, vstd_slices/Slices.PartReplaced, Reversed, vstd_slices/Promises.Set,
+/// vstd_slices/Slices.Updated; contract promisebook_slices::pb_bytes_copy_from; law
+/// vstd_slices/Promised.copy-from-promised, reverse-promised, copy-within-promised,
+/// vstd_slices/Kept.copy-from-kept, reverse-kept, vstd_slices/Promised.set-promised, vstd_slices/Kept.set-kept;
+/// pinned by vstd_slices/Pinned.copy-from-pinned, reverse-pinned, copy-within-pinned, set-pinned; refused
+/// slices_copy/copy_from.blocks_in_one_place, first_block_and_last, longer_is_cut, to_the_start,
+/// vstd_slices/part_replaced.byte_behind_left_open, promisebook_slices/copy_from.before_and_after.
 #[inline]
 #[must_use]
 pub fn copy_from_in(s: &mut [u8], part: Range<usize>, other: &[u8]) -> Option<()> {
@@ -511,6 +697,14 @@ pub fn copy_from_in(s: &mut [u8], part: Range<usize>, other: &[u8]) -> Option<()
 /// assert_eq!(bytes::copy_within(&mut s, 0..4, 3), None);
 /// assert_eq!(s, [10, 20, 30, 40, 50, 60]);
 /// ```
+///
+/// Cited by rows D14, D16, D59, D60; clause vstd_slices/Promises.CopyFrom, Reverse, CopyWithin,
+/// vstd_slices/Slices.CopiedWithin; contract promisebook_slices::pb_bytes_copy_within; law
+/// vstd_slices/Promised.copy-from-promised, reverse-promised, copy-within-promised,
+/// vstd_slices/Kept.copy-within-kept; pinned by vstd_slices/Pinned.copy-from-pinned, reverse-pinned,
+/// copy-within-pinned; refused slices_move/copy_within.a_byte_further, a_byte_nearer, first_block_last,
+/// front_loop_when_behind, front_when_behind, not_up_to_the_end, past_the_end, where_it_was,
+/// vstd_slices/copy_within.reads_what_it_wrote.
 #[inline]
 #[must_use]
 pub fn copy_within(s: &mut [u8], range: Range<usize>, at: usize) -> Option<()> {
@@ -533,6 +727,14 @@ pub fn copy_within(s: &mut [u8], range: Range<usize>, at: usize) -> Option<()> {
 /// assert_eq!(bytes::copy_within_in(&mut s, 1..9, 0..4, 3), None);
 /// assert_eq!(s, [9, 10, 20, 30, 40, 50, 60, 9]);
 /// ```
+///
+/// Cited by rows D14, D16, D59, D60; clause vstd_slices/Promises.CopyFrom, Reverse, CopyWithin,
+/// vstd_slices/Slices.CopiedWithin; contract promisebook_slices::pb_bytes_copy_within; law
+/// vstd_slices/Promised.copy-from-promised, reverse-promised, copy-within-promised,
+/// vstd_slices/Kept.copy-within-kept; pinned by vstd_slices/Pinned.copy-from-pinned, reverse-pinned,
+/// copy-within-pinned; refused slices_move/copy_within.a_byte_further, a_byte_nearer, first_block_last,
+/// front_loop_when_behind, front_when_behind, not_up_to_the_end, past_the_end, where_it_was,
+/// vstd_slices/copy_within.reads_what_it_wrote.
 #[inline]
 #[must_use]
 pub fn copy_within_in(s: &mut [u8], part: Range<usize>, range: Range<usize>, at: usize) -> Option<()> {

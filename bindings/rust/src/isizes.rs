@@ -13,6 +13,10 @@ use core::ops::Range;
 /// assert_eq!(isizes::wrapping_add(9223372036854775780, 100), -9223372036854775736);
 /// assert_eq!(isizes::wrapping_add(-100, 100), 0);
 /// ```
+///
+/// Cited by rows A20; clause vstd_integers/Signed.wrapping-add; contract
+/// promisebook_isize::pb_isize_wrapping_add; law vstd_integers/Signed.wrapping-add-kept; pinned by
+/// vstd_integers/Pinned.pinned-equation; refused signed8_sums/wrapping_add.complement, twice.
 #[inline]
 #[must_use]
 pub fn wrapping_add(x: isize, y: isize) -> isize {
@@ -26,6 +30,10 @@ pub fn wrapping_add(x: isize, y: isize) -> isize {
 /// assert_eq!(isizes::wrapping_add_unsigned(-9223372036854775780, 18446744073709551560), 9223372036854775780);
 /// assert_eq!(isizes::wrapping_add_unsigned(100, 18446744073709551560), 44);
 /// ```
+///
+/// Cited by rows A21; clause vstd_integers/Signed.wrapping-add-unsigned; contract
+/// promisebook_isize::pb_isize_wrapping_add_unsigned; law vstd_integers/Signed.wrapping-add-unsigned-kept; pinned
+/// by vstd_integers/Pinned.pinned-equation; refused signed8_sums/wrapping_add_unsigned.complement, subtracts.
 #[inline]
 #[must_use]
 pub fn wrapping_add_unsigned(x: isize, y: usize) -> isize {
@@ -39,6 +47,11 @@ pub fn wrapping_add_unsigned(x: isize, y: usize) -> isize {
 /// assert_eq!(isizes::wrapping_sub(-9223372036854775808, 1), 9223372036854775807);
 /// assert_eq!(isizes::wrapping_sub(-9223372036854775807, 1), -9223372036854775808);
 /// ```
+///
+/// Cited by rows A22; clause vstd_integers/Signed.wrapping-sub; contract
+/// promisebook_isize::pb_isize_wrapping_sub; law vstd_integers/Signed.wrapping-sub-kept; pinned by
+/// vstd_integers/Pinned.pinned-equation; refused signed8_sums/wrapping_sub.nothing_left, other_way_round,
+/// vstd_integers/wrapping_sub.passes_the_top.
 #[inline]
 #[must_use]
 pub fn wrapping_sub(x: isize, y: isize) -> isize {
@@ -52,6 +65,10 @@ pub fn wrapping_sub(x: isize, y: isize) -> isize {
 /// assert_eq!(isizes::wrapping_mul(-9223372036854775808, -1), -9223372036854775808);
 /// assert_eq!(isizes::wrapping_mul(-9223372036854775807, -1), 9223372036854775807);
 /// ```
+///
+/// Cited by rows A23; clause vstd_integers/Signed.wrapping-mul; contract
+/// promisebook_isize::pb_isize_wrapping_mul; law vstd_integers/Signed.wrapping-mul-kept; pinned by
+/// vstd_integers/Pinned.pinned-equation; refused signed8_sums/wrapping_mul.complement, square.
 #[inline]
 #[must_use]
 pub fn wrapping_mul(x: isize, y: isize) -> isize {
@@ -65,6 +82,10 @@ pub fn wrapping_mul(x: isize, y: isize) -> isize {
 /// assert_eq!(isizes::wrapping_shl(1, 65), 2);
 /// assert_eq!(isizes::wrapping_shl(3, 63), -9223372036854775808);
 /// ```
+///
+/// Cited by rows A24; clause vstd_integers/Signed.wrapping-shl; contract
+/// promisebook_isize::pb_isize_wrapping_shl; law vstd_integers/Signed.wrapping-shl-kept; pinned by
+/// vstd_integers/Pinned.pinned-equation; refused signed8_bits/wrapping_shl.by_the_width_is_0, modulo_7.
 #[inline]
 #[must_use]
 pub fn wrapping_shl(x: isize, rhs: u32) -> isize {
@@ -79,6 +100,10 @@ pub fn wrapping_shl(x: isize, rhs: u32) -> isize {
 /// assert_eq!(isizes::wrapping_shr(-9223372036854775808, 127), -1);
 /// assert_eq!(isizes::wrapping_shr(-7, 65), -4);
 /// ```
+///
+/// Cited by rows A25; clause vstd_integers/Signed.wrapping-shr; contract
+/// promisebook_isize::pb_isize_wrapping_shr; law vstd_integers/Signed.wrapping-shr-kept; pinned by
+/// vstd_integers/Pinned.pinned-equation; refused signed8_bits/wrapping_shr.modulo_7, towards_zero.
 #[inline]
 #[must_use]
 pub fn wrapping_shr(x: isize, rhs: u32) -> isize {
@@ -92,6 +117,10 @@ pub fn wrapping_shr(x: isize, rhs: u32) -> isize {
 /// assert_eq!(isizes::checked_add(9223372036854775780, 100), None);
 /// assert_eq!(isizes::checked_add(-100, 100), Some(0));
 /// ```
+///
+/// Cited by rows A26; clause vstd_integers/Signed.checked-add; contract promisebook_isize::pb_isize_checked_add;
+/// law vstd_integers/Signed.checked-add-kept; pinned by vstd_integers/Pinned.pinned-option; refused
+/// signed8_sums/checked_add.first_summand, largest_refused, signed64_sums/checked_add.other_signs_refused.
 #[inline]
 #[must_use]
 pub fn checked_add(x: isize, y: isize) -> Option<isize> {
@@ -106,6 +135,10 @@ pub fn checked_add(x: isize, y: isize) -> Option<isize> {
 /// assert_eq!(isizes::checked_add_unsigned(-9223372036854775780, 18446744073709551560), Some(9223372036854775780));
 /// assert_eq!(isizes::checked_add_unsigned(100, 18446744073709551560), None);
 /// ```
+///
+/// Cited by rows A27; clause vstd_integers/Signed.checked-add-unsigned; contract
+/// promisebook_isize::pb_isize_checked_add_unsigned; law vstd_integers/Signed.checked-add-unsigned-kept; pinned
+/// by vstd_integers/Pinned.pinned-option; refused signed8_sums/checked_add_unsigned.first_summand, rise_refused.
 #[inline]
 #[must_use]
 pub fn checked_add_unsigned(x: isize, y: usize) -> Option<isize> {
@@ -120,6 +153,10 @@ pub fn checked_add_unsigned(x: isize, y: usize) -> Option<isize> {
 /// assert_eq!(isizes::checked_sub(-9223372036854775808, 1), None);
 /// assert_eq!(isizes::checked_sub(-9223372036854775807, 1), Some(-9223372036854775808));
 /// ```
+///
+/// Cited by rows A28; clause vstd_integers/Signed.checked-sub; contract promisebook_isize::pb_isize_checked_sub;
+/// law vstd_integers/Signed.checked-sub-kept; pinned by vstd_integers/Pinned.pinned-option; refused
+/// signed8_sums/checked_sub.least_refused, other_way_round, signed64_sums/checked_sub.other_signs_refused.
 #[inline]
 #[must_use]
 pub fn checked_sub(x: isize, y: isize) -> Option<isize> {
@@ -134,6 +171,10 @@ pub fn checked_sub(x: isize, y: isize) -> Option<isize> {
 /// assert_eq!(isizes::checked_sub_unsigned(100, 200), Some(-100));
 /// assert_eq!(isizes::checked_sub_unsigned(-9223372036854775780, 200), None);
 /// ```
+///
+/// Cited by rows A29; clause vstd_integers/Signed.checked-sub-unsigned; contract
+/// promisebook_isize::pb_isize_checked_sub_unsigned; law vstd_integers/Signed.checked-sub-unsigned-kept; pinned
+/// by vstd_integers/Pinned.pinned-option; refused signed8_sums/checked_sub_unsigned.fall_refused, first_number.
 #[inline]
 #[must_use]
 pub fn checked_sub_unsigned(x: isize, y: usize) -> Option<isize> {
@@ -148,6 +189,10 @@ pub fn checked_sub_unsigned(x: isize, y: usize) -> Option<isize> {
 /// assert_eq!(isizes::checked_mul(-9223372036854775808, -1), None);
 /// assert_eq!(isizes::checked_mul(-9223372036854775807, -1), Some(9223372036854775807));
 /// ```
+///
+/// Cited by rows A30; clause vstd_integers/Signed.checked-mul; contract promisebook_isize::pb_isize_checked_mul;
+/// law vstd_integers/Signed.checked-mul-kept; pinned by vstd_integers/Pinned.pinned-option; refused
+/// signed8_sums/checked_mul.larger_quotient_taken, square.
 #[inline]
 #[must_use]
 pub fn checked_mul(x: isize, y: isize) -> Option<isize> {
@@ -167,6 +212,11 @@ pub fn checked_mul(x: isize, y: isize) -> Option<isize> {
 /// assert_eq!(isizes::checked_div(-9223372036854775808, -1), None);
 /// assert_eq!(isizes::checked_div(7, 0), None);
 /// ```
+///
+/// Cited by rows A31; clause vstd_integers/Signed.checked-div; contract promisebook_isize::pb_isize_checked_div;
+/// law vstd_integers/Signed.checked-div-kept; pinned by vstd_integers/Pinned.pinned-option; refused
+/// signed8_division/checked_div.least_by_minus_one_wraps, other_dividend, vstd_integers/checked_div.euclidean,
+/// vstd_integers/divided_unless.least_by_minus_one_not_refused.
 #[inline]
 #[must_use]
 pub fn checked_div(x: isize, y: isize) -> Option<isize> {
@@ -186,6 +236,11 @@ pub fn checked_div(x: isize, y: isize) -> Option<isize> {
 /// assert_eq!(isizes::checked_div_euclid(-9223372036854775808, -1), None);
 /// assert_eq!(isizes::checked_div_euclid(7, 0), None);
 /// ```
+///
+/// Cited by rows A32; clause vstd_integers/Signed.checked-div-euclid; contract
+/// promisebook_isize::pb_isize_checked_div_euclid; law vstd_integers/Signed.checked-div-euclid-kept; pinned by
+/// vstd_integers/Pinned.pinned-option; refused signed8_division/checked_div_euclid.not_mended, towards_zero,
+/// promisebook_i8/checked_div_euclid.towards_zero.
 #[inline]
 #[must_use]
 pub fn checked_div_euclid(x: isize, y: isize) -> Option<isize> {
@@ -205,6 +260,10 @@ pub fn checked_div_euclid(x: isize, y: isize) -> Option<isize> {
 /// assert_eq!(isizes::checked_rem(-9223372036854775808, -1), None);
 /// assert_eq!(isizes::checked_rem(7, 0), None);
 /// ```
+///
+/// Cited by rows A33; clause vstd_integers/Signed.checked-rem; contract promisebook_isize::pb_isize_checked_rem;
+/// law vstd_integers/Signed.checked-rem-kept; pinned by vstd_integers/Pinned.pinned-option; refused
+/// signed8_division/checked_rem.euclidean, least_by_minus_one_is_0, promisebook_i8/checked_rem.euclidean.
 #[inline]
 #[must_use]
 pub fn checked_rem(x: isize, y: isize) -> Option<isize> {
@@ -224,6 +283,10 @@ pub fn checked_rem(x: isize, y: isize) -> Option<isize> {
 /// assert_eq!(isizes::checked_rem_euclid(-9223372036854775808, -1), None);
 /// assert_eq!(isizes::checked_rem_euclid(7, 0), None);
 /// ```
+///
+/// Cited by rows A34; clause vstd_integers/Signed.checked-rem-euclid; contract
+/// promisebook_isize::pb_isize_checked_rem_euclid; law vstd_integers/Signed.checked-rem-euclid-kept; pinned by
+/// vstd_integers/Pinned.pinned-option; refused signed8_division/checked_rem_euclid.absolute_value, not_mended.
 #[inline]
 #[must_use]
 pub fn checked_rem_euclid(x: isize, y: isize) -> Option<isize> {
@@ -238,6 +301,10 @@ pub fn checked_rem_euclid(x: isize, y: isize) -> Option<isize> {
 /// assert_eq!(isizes::clone(9223372036854775807), 9223372036854775807);
 /// assert_eq!(isizes::clone(-9223372036854775808), -9223372036854775808);
 /// ```
+///
+/// Cited by rows A35; clause vstd_integers/Compare.clone; contract promisebook_isize::pb_isize_clone; law
+/// vstd_integers/Compare.clone-kept; pinned by vstd_integers/Pinned.pinned-unsigned, pinned-equation; refused
+/// promisebook_u8/clone.always_0, promisebook_i8/clone.always_0.
 #[inline]
 #[must_use]
 pub fn clone(x: isize) -> isize {
@@ -252,6 +319,10 @@ pub fn clone(x: isize) -> isize {
 /// assert!(isizes::eq(5, 5));
 /// assert!(!isizes::eq(9223372036854775807, -9223372036854775808));
 /// ```
+///
+/// Cited by rows A36; clause vstd_integers/Compare.eq; contract promisebook_isize::pb_isize_eq; law
+/// vstd_integers/Compare.eq-kept; pinned by vstd_integers/Pinned.pinned-equation; refused
+/// ordering/is_eq.less_is_equal, never.
 #[inline]
 #[must_use]
 pub fn eq(x: isize, y: isize) -> bool {
@@ -266,6 +337,10 @@ pub fn eq(x: isize, y: isize) -> bool {
 /// assert!(!isizes::ne(5, 5));
 /// assert!(isizes::ne(9223372036854775807, -9223372036854775808));
 /// ```
+///
+/// Cited by rows A37; clause vstd_integers/Compare.ne; contract promisebook_isize::pb_isize_ne; law
+/// vstd_integers/Compare.ne-kept; pinned by vstd_integers/Pinned.pinned-equation; refused
+/// ordering/is_ne.equal_differs, greater_only.
 #[inline]
 #[must_use]
 pub fn ne(x: isize, y: isize) -> bool {
@@ -280,6 +355,10 @@ pub fn ne(x: isize, y: isize) -> bool {
 /// assert!(!isizes::lt(5, 5));
 /// assert!(!isizes::lt(9223372036854775807, -9223372036854775808));
 /// ```
+///
+/// Cited by rows A40; clause vstd_integers/Compare.lt; contract promisebook_isize::pb_isize_lt; law
+/// vstd_integers/Compare.lt-kept; pinned by vstd_integers/Pinned.pinned-equation; refused
+/// ordering/is_lt.equal_is_less, greater_is_less.
 #[inline]
 #[must_use]
 pub fn lt(x: isize, y: isize) -> bool {
@@ -294,6 +373,10 @@ pub fn lt(x: isize, y: isize) -> bool {
 /// assert!(isizes::le(5, 5));
 /// assert!(!isizes::le(9223372036854775807, -9223372036854775808));
 /// ```
+///
+/// Cited by rows A41; clause vstd_integers/Compare.le; contract promisebook_isize::pb_isize_le; law
+/// vstd_integers/Compare.le-kept; pinned by vstd_integers/Pinned.pinned-equation; refused
+/// ordering/is_le.equal_is_more, greater_is_at_most, vstd_integers/le.equal_is_more.
 #[inline]
 #[must_use]
 pub fn le(x: isize, y: isize) -> bool {
@@ -308,6 +391,10 @@ pub fn le(x: isize, y: isize) -> bool {
 /// assert!(!isizes::gt(5, 5));
 /// assert!(isizes::gt(9223372036854775807, -9223372036854775808));
 /// ```
+///
+/// Cited by rows A42; clause vstd_integers/Compare.gt; contract promisebook_isize::pb_isize_gt; law
+/// vstd_integers/Compare.gt-kept; pinned by vstd_integers/Pinned.pinned-equation; refused
+/// ordering/is_gt.equal_is_greater, less_is_greater.
 #[inline]
 #[must_use]
 pub fn gt(x: isize, y: isize) -> bool {
@@ -322,6 +409,10 @@ pub fn gt(x: isize, y: isize) -> bool {
 /// assert!(isizes::ge(5, 5));
 /// assert!(isizes::ge(9223372036854775807, -9223372036854775808));
 /// ```
+///
+/// Cited by rows A43; clause vstd_integers/Compare.ge; contract promisebook_isize::pb_isize_ge; law
+/// vstd_integers/Compare.ge-kept; pinned by vstd_integers/Pinned.pinned-equation; refused
+/// ordering/is_ge.equal_is_less, less_is_at_least.
 #[inline]
 #[must_use]
 pub fn ge(x: isize, y: isize) -> bool {
@@ -337,6 +428,11 @@ pub fn ge(x: isize, y: isize) -> bool {
 /// assert_eq!(isizes::cmp(5, 5), Ordering::Equal);
 /// assert_eq!(isizes::cmp(9223372036854775807, -9223372036854775808), Ordering::Greater);
 /// ```
+///
+/// Cited by rows A38; clause vstd_integers/Compare.cmp; contract promisebook_isize::pb_isize_cmp; law
+/// vstd_integers/Compare.cmp-kept; pinned by vstd_integers/Pinned.pinned-equation; refused
+/// ordering/number.greater_is_0, less_is_1, unsigned8_order/compare.equal_is_greater, less_is_greater,
+/// signed8_order/compare.equal_is_greater, less_is_greater.
 #[inline]
 #[must_use]
 pub fn cmp(x: isize, y: isize) -> Ordering {
@@ -352,6 +448,9 @@ pub fn cmp(x: isize, y: isize) -> Ordering {
 /// assert_eq!(isizes::partial_cmp(5, 5), Some(Ordering::Equal));
 /// assert_eq!(isizes::partial_cmp(9223372036854775807, -9223372036854775808), Some(Ordering::Greater));
 /// ```
+///
+/// Cited by rows A39; clause vstd_integers/Compare.cmp; contract promisebook_isize::pb_isize_partial_cmp; law
+/// vstd_integers/Compare.cmp-kept; pinned by vstd_integers/Pinned.pinned-option.
 #[inline]
 #[must_use]
 pub fn partial_cmp(x: isize, y: isize) -> Option<Ordering> {
@@ -377,6 +476,10 @@ pub fn partial_cmp(x: isize, y: isize) -> Option<Ordering> {
 /// assert_eq!(isizes::read_decimal(b"42"), Ok(42));
 /// assert_eq!(isizes::read_decimal(b"=42"), Err(NotDecimal::NoNumber));
 /// ```
+///
+/// Cited by rows F7; clause theory_decimal/Read.wholeIn, readIn; contract
+/// promisebook_decimal::pb_isize_read_decimal; pinned by vstd_integers/Pinned.pinned-option; refused
+/// decimal_read_signed/read_i8.sign_lost, sign_read_as_a_figure, promisebook_decimal/read_decimal.sign_refused.
 #[inline]
 pub fn read_decimal(s: &[u8]) -> Result<isize, NotDecimal> {
     let answer = exported::isize_read_decimal(s, 0, s.len());
@@ -395,6 +498,10 @@ pub fn read_decimal(s: &[u8]) -> Result<isize, NotDecimal> {
 /// assert_eq!(isizes::read_decimal_in(s, 2..6), None);
 /// assert_eq!(isizes::read_decimal_in(s, 4..2), None);
 /// ```
+///
+/// Cited by rows F7; clause theory_decimal/Read.wholeIn, readIn; contract
+/// promisebook_decimal::pb_isize_read_decimal; pinned by vstd_integers/Pinned.pinned-option; refused
+/// decimal_read_signed/read_i8.sign_lost, sign_read_as_a_figure, promisebook_decimal/read_decimal.sign_refused.
 #[inline]
 #[must_use]
 pub fn read_decimal_in(s: &[u8], part: Range<usize>) -> Option<Result<isize, NotDecimal>> {
@@ -425,6 +532,10 @@ pub fn read_decimal_in(s: &[u8], part: Range<usize>) -> Option<Result<isize, Not
 /// assert_eq!(isizes::write_decimal(&mut s, 10), None);
 /// assert_eq!(s, *b".");
 /// ```
+///
+/// Cited by rows F9; clause theory_decimal/Written.Shows, whole; contract
+/// promisebook_decimal::pb_isize_write_decimal; law theory_decimal/Showing.with-sign-shown; pinned by
+/// theory_decimal/Showing.pinned-shows; refused decimal_write/write_i8.sign_left_out, zero_with_a_sign.
 #[inline]
 #[must_use]
 pub fn write_decimal(s: &mut [u8], x: isize) -> Option<usize> {
@@ -454,6 +565,10 @@ pub fn write_decimal(s: &mut [u8], x: isize) -> Option<usize> {
 /// assert_eq!(isizes::write_decimal_in(&mut s, 2..1, 7), None);
 /// assert_eq!(s, *b".");
 /// ```
+///
+/// Cited by rows F9; clause theory_decimal/Written.Shows, whole; contract
+/// promisebook_decimal::pb_isize_write_decimal; law theory_decimal/Showing.with-sign-shown; pinned by
+/// theory_decimal/Showing.pinned-shows; refused decimal_write/write_i8.sign_left_out, zero_with_a_sign.
 #[inline]
 #[must_use]
 pub fn write_decimal_in(s: &mut [u8], part: Range<usize>, x: isize) -> Option<usize> {

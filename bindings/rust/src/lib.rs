@@ -30,6 +30,10 @@
 //! is to be read, and no proof covers it: the ends of the slice or part, Rust's `get` where the
 //! proved function takes a whole slice or where its answer is shown as one, casts between the
 //! signed and the unsigned type of one width, and why a number was not read.
+//!
+//! Each function ends with what it is cited by: rows of docs/CONTRACTS.md, the clause of vstd's
+//! restated, the contract, the laws that it keeps the clause and that nothing else does, and wrong
+//! answers that the checker refuses (docs/CITING.md).
 #![no_std]
 #![deny(unsafe_code)]
 
@@ -51,6 +55,9 @@ pub mod usizes;
 
 use core::cmp::Ordering;
 use core::fmt;
+
+/// The version of the library, by which it is cited.
+pub const VERSION: &str = env!("CARGO_PKG_VERSION");
 
 /// Why bytes are not read as a number of a type.
 #[derive(Clone, Copy, Debug, PartialEq, Eq)]

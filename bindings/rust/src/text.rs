@@ -20,6 +20,12 @@ pub struct Read {
 /// assert_eq!(text::scalar_len(0x10ffff), Some(4));
 /// assert_eq!(text::scalar_len(0xd800), None);
 /// ```
+///
+/// Cited by rows E63; clause vstd_text/Promises.ScalarLen, vstd_text/Encoding.encode-scalar; contract
+/// promisebook_text::pb_text_scalar_len; law vstd_text/Promised.scalar-len-promised,
+/// vstd_text/Kept.scalar-len-kept; pinned by vstd_text/Pinned.scalar-len-pinned; refused
+/// text_scalar/scalar_len.four_bytes_for_three, three_bytes_for_two,
+/// promisebook_text/pb_text_scalar_len.always_four.
 #[inline]
 #[must_use]
 pub fn scalar_len(c: u32) -> Option<usize> {
@@ -35,6 +41,11 @@ pub fn scalar_len(c: u32) -> Option<usize> {
 /// assert!(text::is_white_space(0x85));
 /// assert!(!text::is_white_space(0x200b));
 /// ```
+///
+/// Cited by rows E65; clause vstd_text/Promises.IsWhiteSpace, vstd_text/Characters.is-white-space; contract
+/// promisebook_text::pb_text_is_white_space; law vstd_text/Promised.is-white-space-promised,
+/// vstd_text/Kept.is-white-space-kept; pinned by vstd_text/Pinned.is-white-space-pinned; refused
+/// text_scalar/is_white_space.next_line_left_out, zero_width_space_counted.
 #[inline]
 #[must_use]
 pub fn is_white_space(c: u32) -> bool {
@@ -56,6 +67,12 @@ pub fn is_white_space(c: u32) -> bool {
 /// assert_eq!(text::write(&mut out, 0xdfff), None);
 /// assert_eq!(out, [0x00, 0x00, 0x00, 0x00]);
 /// ```
+///
+/// Cited by rows E28; clause vstd_text/Promises.Write, vstd_text/Encoding.encode-scalar; contract
+/// promisebook_text::pb_text_write; law vstd_text/Promised.write-promised, vstd_text/Kept.write-kept,
+/// vstd_text/Encoding.encode-scalar-same; pinned by vstd_text/Pinned.write-pinned; refused
+/// text_write/write.form_past_the_end, wrong_digit_first, wrong_mark, vstd_text/write.refusal_leaves_anything,
+/// promisebook_text/pb_text_write.slice_as_it_was.
 #[inline]
 #[must_use]
 pub fn write(out: &mut [u8], c: u32) -> Option<usize> {
@@ -79,6 +96,12 @@ pub fn write(out: &mut [u8], c: u32) -> Option<usize> {
 /// assert_eq!(text::write_in(&mut out, 0..4, 0xdfff), None);
 /// assert_eq!(out, [0x00, 0x00, 0x00, 0x00]);
 /// ```
+///
+/// Cited by rows E28; clause vstd_text/Promises.Write, vstd_text/Encoding.encode-scalar; contract
+/// promisebook_text::pb_text_write; law vstd_text/Promised.write-promised, vstd_text/Kept.write-kept,
+/// vstd_text/Encoding.encode-scalar-same; pinned by vstd_text/Pinned.write-pinned; refused
+/// text_write/write.form_past_the_end, wrong_digit_first, wrong_mark, vstd_text/write.refusal_leaves_anything,
+/// promisebook_text/pb_text_write.slice_as_it_was.
 #[inline]
 #[must_use]
 pub fn write_in(out: &mut [u8], part: Range<usize>, c: u32) -> Option<usize> {
@@ -93,6 +116,13 @@ pub fn write_in(out: &mut [u8], part: Range<usize>, c: u32) -> Option<usize> {
 /// assert_eq!(text::read_first(&[0xa9, 0xe2, 0x82, 0xac, 0xf0, 0x90, 0x8d, 0x88]), None);
 /// assert_eq!(text::read_first(&[0xe2, 0x82]), None);
 /// ```
+///
+/// Cited by rows E13, E14; clause vstd_text/Promises.ReadFirst, vstd_text/Decoding.decode-first-scalar,
+/// length-of-first-scalar; contract promisebook_text::pb_text_read_first; law
+/// vstd_text/Promised.read-first-promised, vstd_text/Kept.read-first-kept; pinned by
+/// vstd_text/Pinned.read-first-pinned; refused text_read/read_first.byte_80_accepted, cut_off_accepted,
+/// longer_than_needed, surrogate_accepted, too_large_accepted,
+/// promisebook_text/pb_text_read_first.ends_exchanged.
 #[inline]
 #[must_use]
 pub fn read_first(s: &[u8]) -> Option<Read> {
@@ -110,6 +140,13 @@ pub fn read_first(s: &[u8]) -> Option<Read> {
 /// assert_eq!(text::read_first_in(s, 2..10), None);
 /// assert_eq!(text::read_first_in(s, 3..5), None);
 /// ```
+///
+/// Cited by rows E13, E14; clause vstd_text/Promises.ReadFirst, vstd_text/Decoding.decode-first-scalar,
+/// length-of-first-scalar; contract promisebook_text::pb_text_read_first; law
+/// vstd_text/Promised.read-first-promised, vstd_text/Kept.read-first-kept; pinned by
+/// vstd_text/Pinned.read-first-pinned; refused text_read/read_first.byte_80_accepted, cut_off_accepted,
+/// longer_than_needed, surrogate_accepted, too_large_accepted,
+/// promisebook_text/pb_text_read_first.ends_exchanged.
 #[inline]
 #[must_use]
 pub fn read_first_in(s: &[u8], part: Range<usize>) -> Option<Read> {
@@ -125,6 +162,12 @@ pub fn read_first_in(s: &[u8], part: Range<usize>) -> Option<Read> {
 /// assert_eq!(text::read_last("Aé".as_bytes()), Some(text::Read { value: 0xe9, length: 2 }));
 /// assert_eq!(text::read_last(&[0x41, 0xc3, 0xa9, 0xe2, 0x82]), None);
 /// ```
+///
+/// Cited by rows E21, E23; clause vstd_text/Promises.ReadLast, vstd_text/Decoding.length-of-last-scalar,
+/// decode-last-scalar; contract promisebook_text::pb_text_read_last; law vstd_text/Promised.read-last-promised,
+/// vstd_text/Kept.read-last-kept; pinned by vstd_text/Pinned.read-last-pinned; refused
+/// text_read/read_last.one_byte_short, shorter_form_accepted, stops_at_a_following_byte,
+/// vstd_text/read_last.any_length, promisebook_text/pb_text_read_last.the_first.
 #[inline]
 #[must_use]
 pub fn read_last(s: &[u8]) -> Option<Read> {
@@ -142,6 +185,12 @@ pub fn read_last(s: &[u8]) -> Option<Read> {
 /// assert_eq!(text::read_last_in(s, 0..3), Some(text::Read { value: 0xe9, length: 2 }));
 /// assert_eq!(text::read_last_in(s, 0..5), None);
 /// ```
+///
+/// Cited by rows E21, E23; clause vstd_text/Promises.ReadLast, vstd_text/Decoding.length-of-last-scalar,
+/// decode-last-scalar; contract promisebook_text::pb_text_read_last; law vstd_text/Promised.read-last-promised,
+/// vstd_text/Kept.read-last-kept; pinned by vstd_text/Pinned.read-last-pinned; refused
+/// text_read/read_last.one_byte_short, shorter_form_accepted, stops_at_a_following_byte,
+/// vstd_text/read_last.any_length, promisebook_text/pb_text_read_last.the_first.
 #[inline]
 #[must_use]
 pub fn read_last_in(s: &[u8], part: Range<usize>) -> Option<Read> {
@@ -159,6 +208,11 @@ pub fn read_last_in(s: &[u8], part: Range<usize>) -> Option<Read> {
 /// assert!(!text::valid(&[0xed, 0xa0, 0x80]));
 /// assert!(!text::valid(&[0xf0, 0x9f, 0x98]));
 /// ```
+///
+/// Cited by rows E17; clause vstd_text/Promises.Valid, vstd_text/Decoding.Valid-utf8; contract
+/// promisebook_text::pb_text_valid; law vstd_text/Promised.valid-promised, vstd_text/Kept.valid-kept,
+/// vstd_text/Whole.valid-utf8-is, valid-utf8-same; pinned by vstd_text/Pinned.valid-pinned; refused
+/// text_valid/valid.always, wrong_from_the_start.
 #[inline]
 #[must_use]
 pub fn valid(s: &[u8]) -> bool {
@@ -176,6 +230,11 @@ pub fn valid(s: &[u8]) -> bool {
 /// assert_eq!(text::valid_in(&[0x28, 0xf0, 0x9f, 0x98, 0x29], 1..4), Some(false));
 /// assert_eq!(text::valid_in(&[0x28, 0xf0, 0x9f, 0x98, 0x29], 1..6), None);
 /// ```
+///
+/// Cited by rows E17; clause vstd_text/Promises.Valid, vstd_text/Decoding.Valid-utf8; contract
+/// promisebook_text::pb_text_valid; law vstd_text/Promised.valid-promised, vstd_text/Kept.valid-kept,
+/// vstd_text/Whole.valid-utf8-is, valid-utf8-same; pinned by vstd_text/Pinned.valid-pinned; refused
+/// text_valid/valid.always, wrong_from_the_start.
 #[inline]
 #[must_use]
 pub fn valid_in(s: &[u8], part: Range<usize>) -> Option<bool> {
@@ -189,6 +248,11 @@ pub fn valid_in(s: &[u8], part: Range<usize>) -> Option<bool> {
 /// assert_eq!(text::count("Aé€𐍈".as_bytes()), Some(4));
 /// assert_eq!(text::count(&[0xe2, 0x82]), None);
 /// ```
+///
+/// Cited by rows E19; clause vstd_text/Promises.Count, vstd_text/Decoding.decode-utf8; contract
+/// promisebook_text::pb_text_count; law vstd_text/Promised.count-promised, vstd_text/Kept.count-kept,
+/// vstd_text/Whole.decode-utf8-is, decode-utf8-same; pinned by vstd_text/Pinned.count-pinned; refused
+/// text_valid/count.marks_confused, one_too_many, vstd_text/count.refusal_with_any_number.
 #[inline]
 #[must_use]
 pub fn count(s: &[u8]) -> Option<usize> {
@@ -205,6 +269,11 @@ pub fn count(s: &[u8]) -> Option<usize> {
 /// assert_eq!(text::count_in(&[0x28, 0xe2, 0x82, 0x29], 1..3), None);
 /// assert_eq!(text::count_in(&[0x28, 0xe2, 0x82, 0x29], 1..5), None);
 /// ```
+///
+/// Cited by rows E19; clause vstd_text/Promises.Count, vstd_text/Decoding.decode-utf8; contract
+/// promisebook_text::pb_text_count; law vstd_text/Promised.count-promised, vstd_text/Kept.count-kept,
+/// vstd_text/Whole.decode-utf8-is, decode-utf8-same; pinned by vstd_text/Pinned.count-pinned; refused
+/// text_valid/count.marks_confused, one_too_many, vstd_text/count.refusal_with_any_number.
 #[inline]
 #[must_use]
 pub fn count_in(s: &[u8], part: Range<usize>) -> Option<usize> {
@@ -221,6 +290,13 @@ pub fn count_in(s: &[u8], part: Range<usize>) -> Option<usize> {
 /// assert_eq!(text::is_boundary("Aé€𐍈".as_bytes(), 11), Some(false));
 /// assert_eq!(text::is_boundary(&[0xff], 0), None);
 /// ```
+///
+/// Cited by rows E32; clause vstd_text/Promises.IsBoundary, vstd_text/Places.Is-char-boundary; contract
+/// promisebook_text::pb_text_is_boundary; law vstd_text/Promised.is-boundary-promised,
+/// vstd_text/Kept.is-boundary-kept, vstd_text/Places.is-char-boundary-is; pinned by
+/// vstd_text/Pinned.is-boundary-pinned; refused text_valid/is_boundary.end_left_out, inside_the_last_scalar,
+/// vstd_text/is_boundary.refusal_may_say_true, vstd_text/is_char_boundary.inside_the_first_scalar,
+/// promisebook_text/pb_text_is_boundary.not_valid_is_none.
 #[inline]
 #[must_use]
 pub fn is_boundary(s: &[u8], at: usize) -> Option<bool> {
@@ -239,6 +315,13 @@ pub fn is_boundary(s: &[u8], at: usize) -> Option<bool> {
 /// assert_eq!(text::is_boundary_in(&[0x28, 0xff, 0x29], 1..2, 0), None);
 /// assert_eq!(text::is_boundary_in(&[0x28, 0xff, 0x29], 1..4, 0), None);
 /// ```
+///
+/// Cited by rows E32; clause vstd_text/Promises.IsBoundary, vstd_text/Places.Is-char-boundary; contract
+/// promisebook_text::pb_text_is_boundary; law vstd_text/Promised.is-boundary-promised,
+/// vstd_text/Kept.is-boundary-kept, vstd_text/Places.is-char-boundary-is; pinned by
+/// vstd_text/Pinned.is-boundary-pinned; refused text_valid/is_boundary.end_left_out, inside_the_last_scalar,
+/// vstd_text/is_boundary.refusal_may_say_true, vstd_text/is_char_boundary.inside_the_first_scalar,
+/// promisebook_text/pb_text_is_boundary.not_valid_is_none.
 #[inline]
 #[must_use]
 pub fn is_boundary_in(s: &[u8], part: Range<usize>, at: usize) -> Option<bool> {
@@ -254,6 +337,12 @@ pub fn is_boundary_in(s: &[u8], part: Range<usize>, at: usize) -> Option<bool> {
 /// assert_eq!(text::split_at(s, 3), Some(("Aé".as_bytes(), "€𐍈".as_bytes())));
 /// assert_eq!(text::split_at(s, 4), None);
 /// ```
+///
+/// Cited by rows E52; clause vstd_text/Promises.SplitAt, vstd_text/Decoding.Valid-utf8; contract
+/// promisebook_text::pb_text_split_at; law vstd_text/Promised.split-at-promised, vstd_text/Kept.split-at-kept,
+/// vstd_text/Boundaries.valid-utf8-split; pinned by vstd_text/Pinned.split-at-pinned; refused
+/// text_valid/split_at.first_part_empty, inside_a_scalar, vstd_text/split_at.end_not_mentioned,
+/// promisebook_text/pb_text_split_at.middle_and_end_exchanged.
 #[inline]
 #[must_use]
 pub fn split_at(s: &[u8], at: usize) -> Option<(&[u8], &[u8])> {
@@ -272,6 +361,12 @@ pub fn split_at(s: &[u8], at: usize) -> Option<(&[u8], &[u8])> {
 /// assert_eq!(text::split_at_in(s, 1..11, 4), None);
 /// assert_eq!(text::split_at_in(s, 1..13, 4), None);
 /// ```
+///
+/// Cited by rows E52; clause vstd_text/Promises.SplitAt, vstd_text/Decoding.Valid-utf8; contract
+/// promisebook_text::pb_text_split_at; law vstd_text/Promised.split-at-promised, vstd_text/Kept.split-at-kept,
+/// vstd_text/Boundaries.valid-utf8-split; pinned by vstd_text/Pinned.split-at-pinned; refused
+/// text_valid/split_at.first_part_empty, inside_a_scalar, vstd_text/split_at.end_not_mentioned,
+/// promisebook_text/pb_text_split_at.middle_and_end_exchanged.
 #[inline]
 #[must_use]
 pub fn split_at_in(s: &[u8], part: Range<usize>, at: usize) -> Option<(Range<usize>, Range<usize>)> {
@@ -287,6 +382,11 @@ pub fn split_at_in(s: &[u8], part: Range<usize>, at: usize) -> Option<(Range<usi
 /// assert!(!text::is_ascii("Aé€𐍈".as_bytes()));
 /// assert!(text::is_ascii(&[]));
 /// ```
+///
+/// Cited by rows E33; clause vstd_text/Promises.IsAscii, vstd_text/Characters.Is-ascii-chars; contract
+/// promisebook_text::pb_text_is_ascii; law vstd_text/Promised.is-ascii-promised, vstd_text/Kept.is-ascii-kept,
+/// vstd_text/Characters.is-ascii-chars-same; pinned by vstd_text/Pinned.is-ascii-pinned; refused
+/// text_ascii/is_ascii.any_byte, blocks_unread, with_0x80.
 #[inline]
 #[must_use]
 pub fn is_ascii(s: &[u8]) -> bool {
@@ -302,6 +402,11 @@ pub fn is_ascii(s: &[u8]) -> bool {
 /// assert_eq!(text::is_ascii_in("()".as_bytes(), 1..1), Some(true));
 /// assert_eq!(text::is_ascii_in("()".as_bytes(), 1..3), None);
 /// ```
+///
+/// Cited by rows E33; clause vstd_text/Promises.IsAscii, vstd_text/Characters.Is-ascii-chars; contract
+/// promisebook_text::pb_text_is_ascii; law vstd_text/Promised.is-ascii-promised, vstd_text/Kept.is-ascii-kept,
+/// vstd_text/Characters.is-ascii-chars-same; pinned by vstd_text/Pinned.is-ascii-pinned; refused
+/// text_ascii/is_ascii.any_byte, blocks_unread, with_0x80.
 #[inline]
 #[must_use]
 pub fn is_ascii_in(s: &[u8], part: Range<usize>) -> Option<bool> {
@@ -318,6 +423,11 @@ pub fn is_ascii_in(s: &[u8], part: Range<usize>) -> Option<bool> {
 /// assert_eq!(text::valid_up_to(&[0x80]), 0);
 /// assert_eq!(text::valid_up_to(&[]), 0);
 /// ```
+///
+/// Cited by rows E30; clause vstd_text/Promises.ValidUpTo, vstd_text/Places.Partial-valid-utf8; contract
+/// promisebook_text::pb_text_valid_up_to; law vstd_text/Promised.valid-up-to-promised; pinned by
+/// vstd_text/Pinned.valid-up-to-pinned; refused text_valid/valid_up_to.byte_out_of_place, wrong_byte_passed_over,
+/// vstd_text/valid_up_to.not_the_most.
 #[inline]
 #[must_use]
 pub fn valid_up_to(s: &[u8]) -> usize {
@@ -336,6 +446,11 @@ pub fn valid_up_to(s: &[u8]) -> usize {
 /// assert_eq!(text::valid_up_to_in("()".as_bytes(), 1..1), Some(0));
 /// assert_eq!(text::valid_up_to_in("()".as_bytes(), 1..3), None);
 /// ```
+///
+/// Cited by rows E30; clause vstd_text/Promises.ValidUpTo, vstd_text/Places.Partial-valid-utf8; contract
+/// promisebook_text::pb_text_valid_up_to; law vstd_text/Promised.valid-up-to-promised; pinned by
+/// vstd_text/Pinned.valid-up-to-pinned; refused text_valid/valid_up_to.byte_out_of_place, wrong_byte_passed_over,
+/// vstd_text/valid_up_to.not_the_most.
 #[inline]
 #[must_use]
 pub fn valid_up_to_in(s: &[u8], part: Range<usize>) -> Option<usize> {
@@ -349,6 +464,8 @@ pub fn valid_up_to_in(s: &[u8], part: Range<usize>) -> Option<usize> {
 /// assert_eq!(text::as_str(&[0x41, 0xc3, 0xa9]), Some("Aé"));
 /// assert_eq!(text::as_str(&[0x41, 0xc3]), None);
 /// ```
+///
+/// Cited by what [`valid`] is cited by.
 #[inline]
 #[must_use]
 pub fn as_str(s: &[u8]) -> Option<&str> {
@@ -364,6 +481,8 @@ pub fn as_str(s: &[u8]) -> Option<&str> {
 /// assert_eq!(text::as_str_in(s, 0..4), None);
 /// assert_eq!(text::as_str_in(s, 1..5), None);
 /// ```
+///
+/// Cited by what [`valid`] is cited by.
 #[inline]
 #[must_use]
 pub fn as_str_in(s: &[u8], part: Range<usize>) -> Option<&str> {

@@ -13,6 +13,10 @@ use core::ops::Range;
 /// assert_eq!(u32s::wrapping_add(4294967240, 100), 44);
 /// assert_eq!(u32s::wrapping_add(4294967140, 100), 4294967240);
 /// ```
+///
+/// Cited by rows A1; clause vstd_integers/Unsigned.wrapping-add; contract promisebook_u32::pb_u32_wrapping_add;
+/// law vstd_integers/Unsigned.wrapping-add-kept; pinned by vstd_integers/Pinned.pinned-unsigned; refused
+/// unsigned8_sums/wrapping_add.one_too_few, sum_of_255_wraps.
 #[inline]
 #[must_use]
 pub fn wrapping_add(x: u32, y: u32) -> u32 {
@@ -27,6 +31,10 @@ pub fn wrapping_add(x: u32, y: u32) -> u32 {
 /// assert_eq!(u32s::wrapping_add_signed(4294967240, -100), 4294967140);
 /// assert_eq!(u32s::wrapping_add_signed(4294967240, 100), 44);
 /// ```
+///
+/// Cited by rows A2; clause vstd_integers/Unsigned.wrapping-add-signed; contract
+/// promisebook_u32::pb_u32_wrapping_add_signed; law vstd_integers/Unsigned.wrapping-add-signed-kept; pinned by
+/// vstd_integers/Pinned.pinned-unsigned; refused unsigned8_sums/wrapping_add_signed.other_summand, subtracts.
 #[inline]
 #[must_use]
 pub fn wrapping_add_signed(x: u32, y: i32) -> u32 {
@@ -40,6 +48,10 @@ pub fn wrapping_add_signed(x: u32, y: i32) -> u32 {
 /// assert_eq!(u32s::wrapping_sub(3, 5), 4294967294);
 /// assert_eq!(u32s::wrapping_sub(5, 3), 2);
 /// ```
+///
+/// Cited by rows A3; clause vstd_integers/Unsigned.wrapping-sub; contract promisebook_u32::pb_u32_wrapping_sub;
+/// law vstd_integers/Unsigned.wrapping-sub-kept; pinned by vstd_integers/Pinned.pinned-unsigned; refused
+/// unsigned8_sums/wrapping_sub.one_too_many, zero_borrows.
 #[inline]
 #[must_use]
 pub fn wrapping_sub(x: u32, y: u32) -> u32 {
@@ -54,6 +66,10 @@ pub fn wrapping_sub(x: u32, y: u32) -> u32 {
 /// assert_eq!(u32s::wrapping_mul(65535, 65537), 4294967295);
 /// assert_eq!(u32s::wrapping_mul(65535, 65535), 4294836225);
 /// ```
+///
+/// Cited by rows A4; clause vstd_integers/Unsigned.wrapping-mul; contract promisebook_u32::pb_u32_wrapping_mul;
+/// law vstd_integers/Unsigned.wrapping-mul-kept; pinned by vstd_integers/Pinned.pinned-unsigned; refused
+/// unsigned8_sums/wrapping_mul.modulo_255, square.
 #[inline]
 #[must_use]
 pub fn wrapping_mul(x: u32, y: u32) -> u32 {
@@ -67,6 +83,10 @@ pub fn wrapping_mul(x: u32, y: u32) -> u32 {
 /// assert_eq!(u32s::wrapping_shl(1, 33), 2);
 /// assert_eq!(u32s::wrapping_shl(3, 31), 2147483648);
 /// ```
+///
+/// Cited by rows A5; clause vstd_integers/Unsigned.wrapping-shl; contract promisebook_u32::pb_u32_wrapping_shl;
+/// law vstd_integers/Unsigned.wrapping-shl-kept; pinned by vstd_integers/Pinned.pinned-unsigned; refused
+/// unsigned8_bits/wrapping_shl.by_the_width_is_0, modulo_7.
 #[inline]
 #[must_use]
 pub fn wrapping_shl(x: u32, rhs: u32) -> u32 {
@@ -79,6 +99,10 @@ pub fn wrapping_shl(x: u32, rhs: u32) -> u32 {
 /// use promisebook::u32s;
 /// assert_eq!(u32s::wrapping_shr(2147483648, 63), 1);
 /// ```
+///
+/// Cited by rows A6; clause vstd_integers/Unsigned.wrapping-shr; contract promisebook_u32::pb_u32_wrapping_shr;
+/// law vstd_integers/Unsigned.wrapping-shr-kept; pinned by vstd_integers/Pinned.pinned-unsigned; refused
+/// unsigned8_bits/wrapping_shr.by_the_width_is_0, modulo_7.
 #[inline]
 #[must_use]
 pub fn wrapping_shr(x: u32, rhs: u32) -> u32 {
@@ -92,6 +116,11 @@ pub fn wrapping_shr(x: u32, rhs: u32) -> u32 {
 /// assert_eq!(u32s::checked_add(4294967240, 100), None);
 /// assert_eq!(u32s::checked_add(4294967140, 100), Some(4294967240));
 /// ```
+///
+/// Cited by rows A7; clause vstd_integers/Unsigned.checked-add; contract promisebook_u32::pb_u32_checked_add; law
+/// vstd_integers/Unsigned.checked-add-kept; pinned by vstd_integers/Pinned.pinned-unsigned-option; refused
+/// unsigned8_sums/checked_add.second_summand_alone, sum_of_255_refused,
+/// vstd_integers/checked_add.largest_refused.
 #[inline]
 #[must_use]
 pub fn checked_add(x: u32, y: u32) -> Option<u32> {
@@ -107,6 +136,11 @@ pub fn checked_add(x: u32, y: u32) -> Option<u32> {
 /// assert_eq!(u32s::checked_add_signed(4294967240, -100), Some(4294967140));
 /// assert_eq!(u32s::checked_add_signed(4294967240, 100), None);
 /// ```
+///
+/// Cited by rows A8; clause vstd_integers/Unsigned.checked-add-signed; contract
+/// promisebook_u32::pb_u32_checked_add_signed; law vstd_integers/Unsigned.checked-add-signed-kept; pinned by
+/// vstd_integers/Pinned.pinned-unsigned-option; refused unsigned8_sums/checked_add_signed.first_summand,
+/// other_side.
 #[inline]
 #[must_use]
 pub fn checked_add_signed(x: u32, y: i32) -> Option<u32> {
@@ -121,6 +155,10 @@ pub fn checked_add_signed(x: u32, y: i32) -> Option<u32> {
 /// assert_eq!(u32s::checked_sub(3, 5), None);
 /// assert_eq!(u32s::checked_sub(5, 3), Some(2));
 /// ```
+///
+/// Cited by rows A9; clause vstd_integers/Unsigned.checked-sub; contract promisebook_u32::pb_u32_checked_sub; law
+/// vstd_integers/Unsigned.checked-sub-kept; pinned by vstd_integers/Pinned.pinned-unsigned-option; refused
+/// unsigned8_sums/checked_sub.nothing_taken, other_way_round.
 #[inline]
 #[must_use]
 pub fn checked_sub(x: u32, y: u32) -> Option<u32> {
@@ -136,6 +174,10 @@ pub fn checked_sub(x: u32, y: u32) -> Option<u32> {
 /// assert_eq!(u32s::checked_mul(65535, 65537), Some(4294967295));
 /// assert_eq!(u32s::checked_mul(65535, 65535), Some(4294836225));
 /// ```
+///
+/// Cited by rows A10; clause vstd_integers/Unsigned.checked-mul; contract promisebook_u32::pb_u32_checked_mul;
+/// law vstd_integers/Unsigned.checked-mul-kept; pinned by vstd_integers/Pinned.pinned-unsigned-option; refused
+/// unsigned8_sums/checked_mul.larger_quotient_taken, square.
 #[inline]
 #[must_use]
 pub fn checked_mul(x: u32, y: u32) -> Option<u32> {
@@ -151,6 +193,12 @@ pub fn checked_mul(x: u32, y: u32) -> Option<u32> {
 /// assert_eq!(u32s::checked_next_multiple_of(4294967290, 16), None);
 /// assert_eq!(u32s::checked_next_multiple_of(7, 0), None);
 /// ```
+///
+/// Cited by rows A11; clause vstd_integers/Unsigned.checked-next-multiple-of; contract
+/// promisebook_u32::pb_u32_checked_next_multiple_of; law vstd_integers/Unsigned.checked-next-multiple-of-kept;
+/// pinned by vstd_integers/Pinned.pinned-unsigned-option; refused
+/// unsigned8_division/checked_next_multiple_of.always_a_multiple, first_multiple,
+/// vstd_integers/checked_next_multiple_of.zero_not_refused, promisebook_u8/checked_next_multiple_of.nine_bits.
 #[inline]
 #[must_use]
 pub fn checked_next_multiple_of(x: u32, y: u32) -> Option<u32> {
@@ -166,6 +214,10 @@ pub fn checked_next_multiple_of(x: u32, y: u32) -> Option<u32> {
 /// assert_eq!(u32s::checked_div(4294967295, 10), Some(429496729));
 /// assert_eq!(u32s::checked_div(7, 0), None);
 /// ```
+///
+/// Cited by rows A12; clause vstd_integers/Unsigned.checked-div; contract promisebook_u32::pb_u32_checked_div;
+/// law vstd_integers/Unsigned.checked-div-kept; pinned by vstd_integers/Pinned.pinned-unsigned-option; refused
+/// unsigned8_division/checked_div.by_zero_is_0, other_dividend.
 #[inline]
 #[must_use]
 pub fn checked_div(x: u32, y: u32) -> Option<u32> {
@@ -181,6 +233,11 @@ pub fn checked_div(x: u32, y: u32) -> Option<u32> {
 /// assert_eq!(u32s::checked_div_euclid(4294967295, 10), Some(429496729));
 /// assert_eq!(u32s::checked_div_euclid(7, 0), None);
 /// ```
+///
+/// Cited by rows A13; clause vstd_integers/Unsigned.checked-div; contract
+/// promisebook_u32::pb_u32_checked_div_euclid; law vstd_integers/Unsigned.checked-div-euclid-kept; pinned by
+/// vstd_integers/Pinned.pinned-unsigned-option; refused unsigned8_division/checked_div_euclid.by_zero_is_0,
+/// other_way_round.
 #[inline]
 #[must_use]
 pub fn checked_div_euclid(x: u32, y: u32) -> Option<u32> {
@@ -196,6 +253,10 @@ pub fn checked_div_euclid(x: u32, y: u32) -> Option<u32> {
 /// assert_eq!(u32s::checked_rem(4294967295, 10), Some(5));
 /// assert_eq!(u32s::checked_rem(7, 0), None);
 /// ```
+///
+/// Cited by rows A14; clause vstd_integers/Unsigned.checked-rem; contract promisebook_u32::pb_u32_checked_rem;
+/// law vstd_integers/Unsigned.checked-rem-kept; pinned by vstd_integers/Pinned.pinned-unsigned-option; refused
+/// unsigned8_division/checked_rem.by_zero_is_dividend, other_dividend.
 #[inline]
 #[must_use]
 pub fn checked_rem(x: u32, y: u32) -> Option<u32> {
@@ -211,6 +272,11 @@ pub fn checked_rem(x: u32, y: u32) -> Option<u32> {
 /// assert_eq!(u32s::checked_rem_euclid(4294967295, 10), Some(5));
 /// assert_eq!(u32s::checked_rem_euclid(7, 0), None);
 /// ```
+///
+/// Cited by rows A15; clause vstd_integers/Unsigned.checked-rem; contract
+/// promisebook_u32::pb_u32_checked_rem_euclid; law vstd_integers/Unsigned.checked-rem-euclid-kept; pinned by
+/// vstd_integers/Pinned.pinned-unsigned-option; refused
+/// unsigned8_division/checked_rem_euclid.by_zero_is_dividend, other_way_round.
 #[inline]
 #[must_use]
 pub fn checked_rem_euclid(x: u32, y: u32) -> Option<u32> {
@@ -225,6 +291,10 @@ pub fn checked_rem_euclid(x: u32, y: u32) -> Option<u32> {
 /// assert_eq!(u32s::saturating_add(4294967240, 100), 4294967295);
 /// assert_eq!(u32s::saturating_add(4294967140, 100), 4294967240);
 /// ```
+///
+/// Cited by rows A16; clause vstd_integers/Unsigned.saturating-add; contract
+/// promisebook_u32::pb_u32_saturating_add; law vstd_integers/Unsigned.saturating-add-kept; pinned by
+/// vstd_integers/Pinned.pinned-unsigned; refused unsigned8_sums/saturating_add.first_summand, wraps_to_0.
 #[inline]
 #[must_use]
 pub fn saturating_add(x: u32, y: u32) -> u32 {
@@ -238,6 +308,11 @@ pub fn saturating_add(x: u32, y: u32) -> u32 {
 /// assert_eq!(u32s::saturating_sub(3, 5), 0);
 /// assert_eq!(u32s::saturating_sub(5, 3), 2);
 /// ```
+///
+/// Cited by rows A17; clause vstd_integers/Unsigned.saturating-sub; contract
+/// promisebook_u32::pb_u32_saturating_sub; law vstd_integers/Unsigned.saturating-sub-kept; pinned by
+/// vstd_integers/Pinned.pinned-unsigned; refused unsigned8_sums/saturating_sub.other_side, stops_at_1,
+/// promisebook_u8/saturating_sub.wraps.
 #[inline]
 #[must_use]
 pub fn saturating_sub(x: u32, y: u32) -> u32 {
@@ -252,6 +327,11 @@ pub fn saturating_sub(x: u32, y: u32) -> u32 {
 /// assert_eq!(u32s::saturating_mul(65535, 65537), 4294967295);
 /// assert_eq!(u32s::saturating_mul(65535, 65535), 4294836225);
 /// ```
+///
+/// Cited by rows A18; clause vstd_integers/Unsigned.saturating-mul; contract
+/// promisebook_u32::pb_u32_saturating_mul; law vstd_integers/Unsigned.saturating-mul-kept; pinned by
+/// vstd_integers/Pinned.pinned-unsigned; refused unsigned8_sums/saturating_mul.square, wraps_to_0,
+/// vstd_integers/saturating_mul.wraps.
 #[inline]
 #[must_use]
 pub fn saturating_mul(x: u32, y: u32) -> u32 {
@@ -267,6 +347,11 @@ pub fn saturating_mul(x: u32, y: u32) -> u32 {
 /// assert!(u32s::is_multiple_of(0, 0));
 /// assert!(!u32s::is_multiple_of(7, 0));
 /// ```
+///
+/// Cited by rows A19; clause vstd_integers/Unsigned.is-multiple-of; contract
+/// promisebook_u32::pb_u32_is_multiple_of; law vstd_integers/Unsigned.is-multiple-of-kept; pinned by
+/// vstd_integers/Pinned.pinned-equation; refused unsigned8_division/is_multiple_of.all_of_zero, remainder_of_1,
+/// vstd_integers/is_multiple_of.all_of_zero.
 #[inline]
 #[must_use]
 pub fn is_multiple_of(x: u32, y: u32) -> bool {
@@ -280,6 +365,10 @@ pub fn is_multiple_of(x: u32, y: u32) -> bool {
 /// assert_eq!(u32s::clone(4294967295), 4294967295);
 /// assert_eq!(u32s::clone(0), 0);
 /// ```
+///
+/// Cited by rows A35; clause vstd_integers/Compare.clone; contract promisebook_u32::pb_u32_clone; law
+/// vstd_integers/Compare.clone-kept; pinned by vstd_integers/Pinned.pinned-unsigned, pinned-equation; refused
+/// promisebook_u8/clone.always_0, promisebook_i8/clone.always_0.
 #[inline]
 #[must_use]
 pub fn clone(x: u32) -> u32 {
@@ -294,6 +383,10 @@ pub fn clone(x: u32) -> u32 {
 /// assert!(u32s::eq(5, 5));
 /// assert!(!u32s::eq(4294967295, 0));
 /// ```
+///
+/// Cited by rows A36; clause vstd_integers/Compare.eq; contract promisebook_u32::pb_u32_eq; law
+/// vstd_integers/Compare.eq-kept; pinned by vstd_integers/Pinned.pinned-equation; refused
+/// ordering/is_eq.less_is_equal, never.
 #[inline]
 #[must_use]
 pub fn eq(x: u32, y: u32) -> bool {
@@ -308,6 +401,10 @@ pub fn eq(x: u32, y: u32) -> bool {
 /// assert!(!u32s::ne(5, 5));
 /// assert!(u32s::ne(4294967295, 0));
 /// ```
+///
+/// Cited by rows A37; clause vstd_integers/Compare.ne; contract promisebook_u32::pb_u32_ne; law
+/// vstd_integers/Compare.ne-kept; pinned by vstd_integers/Pinned.pinned-equation; refused
+/// ordering/is_ne.equal_differs, greater_only.
 #[inline]
 #[must_use]
 pub fn ne(x: u32, y: u32) -> bool {
@@ -322,6 +419,10 @@ pub fn ne(x: u32, y: u32) -> bool {
 /// assert!(!u32s::lt(5, 5));
 /// assert!(!u32s::lt(4294967295, 0));
 /// ```
+///
+/// Cited by rows A40; clause vstd_integers/Compare.lt; contract promisebook_u32::pb_u32_lt; law
+/// vstd_integers/Compare.lt-kept; pinned by vstd_integers/Pinned.pinned-equation; refused
+/// ordering/is_lt.equal_is_less, greater_is_less.
 #[inline]
 #[must_use]
 pub fn lt(x: u32, y: u32) -> bool {
@@ -336,6 +437,10 @@ pub fn lt(x: u32, y: u32) -> bool {
 /// assert!(u32s::le(5, 5));
 /// assert!(!u32s::le(4294967295, 0));
 /// ```
+///
+/// Cited by rows A41; clause vstd_integers/Compare.le; contract promisebook_u32::pb_u32_le; law
+/// vstd_integers/Compare.le-kept; pinned by vstd_integers/Pinned.pinned-equation; refused
+/// ordering/is_le.equal_is_more, greater_is_at_most, vstd_integers/le.equal_is_more.
 #[inline]
 #[must_use]
 pub fn le(x: u32, y: u32) -> bool {
@@ -350,6 +455,10 @@ pub fn le(x: u32, y: u32) -> bool {
 /// assert!(!u32s::gt(5, 5));
 /// assert!(u32s::gt(4294967295, 0));
 /// ```
+///
+/// Cited by rows A42; clause vstd_integers/Compare.gt; contract promisebook_u32::pb_u32_gt; law
+/// vstd_integers/Compare.gt-kept; pinned by vstd_integers/Pinned.pinned-equation; refused
+/// ordering/is_gt.equal_is_greater, less_is_greater.
 #[inline]
 #[must_use]
 pub fn gt(x: u32, y: u32) -> bool {
@@ -364,6 +473,10 @@ pub fn gt(x: u32, y: u32) -> bool {
 /// assert!(u32s::ge(5, 5));
 /// assert!(u32s::ge(4294967295, 0));
 /// ```
+///
+/// Cited by rows A43; clause vstd_integers/Compare.ge; contract promisebook_u32::pb_u32_ge; law
+/// vstd_integers/Compare.ge-kept; pinned by vstd_integers/Pinned.pinned-equation; refused
+/// ordering/is_ge.equal_is_less, less_is_at_least.
 #[inline]
 #[must_use]
 pub fn ge(x: u32, y: u32) -> bool {
@@ -379,6 +492,11 @@ pub fn ge(x: u32, y: u32) -> bool {
 /// assert_eq!(u32s::cmp(5, 5), Ordering::Equal);
 /// assert_eq!(u32s::cmp(4294967295, 0), Ordering::Greater);
 /// ```
+///
+/// Cited by rows A38; clause vstd_integers/Compare.cmp; contract promisebook_u32::pb_u32_cmp; law
+/// vstd_integers/Compare.cmp-kept; pinned by vstd_integers/Pinned.pinned-equation; refused
+/// ordering/number.greater_is_0, less_is_1, unsigned8_order/compare.equal_is_greater, less_is_greater,
+/// signed8_order/compare.equal_is_greater, less_is_greater.
 #[inline]
 #[must_use]
 pub fn cmp(x: u32, y: u32) -> Ordering {
@@ -394,6 +512,9 @@ pub fn cmp(x: u32, y: u32) -> Ordering {
 /// assert_eq!(u32s::partial_cmp(5, 5), Some(Ordering::Equal));
 /// assert_eq!(u32s::partial_cmp(4294967295, 0), Some(Ordering::Greater));
 /// ```
+///
+/// Cited by rows A39; clause vstd_integers/Compare.cmp; contract promisebook_u32::pb_u32_partial_cmp; law
+/// vstd_integers/Compare.cmp-kept; pinned by vstd_integers/Pinned.pinned-option.
 #[inline]
 #[must_use]
 pub fn partial_cmp(x: u32, y: u32) -> Option<Ordering> {
@@ -410,6 +531,11 @@ pub fn partial_cmp(x: u32, y: u32) -> Option<Ordering> {
 /// assert_eq!(u32s::leading_zeros(0), 32);
 /// assert_eq!(u32s::leading_zeros(4294967295), 0);
 /// ```
+///
+/// Cited by rows B3; clause vstd_zeros/Zeros.vstd-leading-zeros; contract
+/// promisebook_zeros::pb_u32_leading_zeros; law vstd_zeros/Zeros.vstd-leading-zeros-is; pinned by
+/// vstd_integers/Pinned.pinned-equation; refused zeros/leading_zeros_u8.highest_bit_is_ignored,
+/// zero_has_one_less, vstd_zeros/leading_zeros.zero_has_one_less, promisebook_zeros/leading_zeros.of_eight_bits.
 #[inline]
 #[must_use]
 pub fn leading_zeros(i: u32) -> u32 {
@@ -425,6 +551,10 @@ pub fn leading_zeros(i: u32) -> u32 {
 /// assert_eq!(u32s::leading_ones(0), 0);
 /// assert_eq!(u32s::leading_ones(4294967295), 32);
 /// ```
+///
+/// Cited by rows B4; clause vstd_zeros/Zeros.vstd-leading-ones; contract promisebook_zeros::pb_u32_leading_ones;
+/// law vstd_zeros/Zeros.vstd-leading-ones-is; pinned by vstd_integers/Pinned.pinned-equation; refused
+/// zeros/leading_ones_u8.highest_bit_counts_as_one, zeros_are_counted, promisebook_zeros/leading_ones.zeros.
 #[inline]
 #[must_use]
 pub fn leading_ones(i: u32) -> u32 {
@@ -440,6 +570,11 @@ pub fn leading_ones(i: u32) -> u32 {
 /// assert_eq!(u32s::trailing_zeros(0), 32);
 /// assert_eq!(u32s::trailing_zeros(4294967295), 0);
 /// ```
+///
+/// Cited by rows B1; clause vstd_zeros/Zeros.vstd-trailing-zeros; contract
+/// promisebook_zeros::pb_u32_trailing_zeros; law vstd_zeros/Zeros.vstd-trailing-zeros-is; pinned by
+/// vstd_integers/Pinned.pinned-equation; refused zeros/trailing_zeros_u8.lowest_bit_is_ignored,
+/// zero_has_one_less, vstd_zeros/trailing_zeros.ones_are_counted.
 #[inline]
 #[must_use]
 pub fn trailing_zeros(i: u32) -> u32 {
@@ -455,6 +590,11 @@ pub fn trailing_zeros(i: u32) -> u32 {
 /// assert_eq!(u32s::trailing_ones(0), 0);
 /// assert_eq!(u32s::trailing_ones(4294967295), 32);
 /// ```
+///
+/// Cited by rows B2; clause vstd_zeros/Zeros.vstd-trailing-ones; contract
+/// promisebook_zeros::pb_u32_trailing_ones; law vstd_zeros/Zeros.vstd-trailing-ones-is; pinned by
+/// vstd_integers/Pinned.pinned-equation; refused zeros/trailing_ones_u8.lowest_bit_counts_as_one,
+/// zeros_are_counted, vstd_zeros/trailing_ones.of_the_number.
 #[inline]
 #[must_use]
 pub fn trailing_ones(i: u32) -> u32 {
@@ -468,6 +608,12 @@ pub fn trailing_ones(i: u32) -> u32 {
 /// assert_eq!(u32s::from_le_bytes(&[4, 3, 2, 1]), Some(16909060));
 /// assert_eq!(u32s::from_le_bytes(&[3, 2, 1]), None);
 /// ```
+///
+/// Cited by rows C1, C2; clause vstd_number_bytes/Bytes.from-le-bytes, spec-from-le-bytes; contract
+/// promisebook_number_bytes::pb_u32_from_le_bytes; law vstd_number_bytes/Bytes.from-le-bytes-kept; pinned by
+/// vstd_integers/Pinned.pinned-unsigned-option; refused number_bytes16/from_le_bytes.two_bytes_for_three,
+/// vstd_number_bytes/from_le_bytes.any_length, one_byte_fewer, number_bytes16/from_le_bytes.highest_first,
+/// vstd_number_bytes/from_le_bytes.first_byte_last.
 #[inline]
 #[must_use]
 pub fn from_le_bytes(s: &[u8]) -> Option<u32> {
@@ -484,6 +630,12 @@ pub fn from_le_bytes(s: &[u8]) -> Option<u32> {
 /// assert_eq!(u32s::from_le_bytes_in(&[9, 3, 2, 1, 9], 1..4), None);
 /// assert_eq!(u32s::from_le_bytes_in(&[9, 3, 2, 1, 9], 1..6), None);
 /// ```
+///
+/// Cited by rows C1, C2; clause vstd_number_bytes/Bytes.from-le-bytes, spec-from-le-bytes; contract
+/// promisebook_number_bytes::pb_u32_from_le_bytes; law vstd_number_bytes/Bytes.from-le-bytes-kept; pinned by
+/// vstd_integers/Pinned.pinned-unsigned-option; refused number_bytes16/from_le_bytes.two_bytes_for_three,
+/// vstd_number_bytes/from_le_bytes.any_length, one_byte_fewer, number_bytes16/from_le_bytes.highest_first,
+/// vstd_number_bytes/from_le_bytes.first_byte_last.
 #[inline]
 #[must_use]
 pub fn from_le_bytes_in(s: &[u8], part: Range<usize>) -> Option<u32> {
@@ -496,6 +648,12 @@ pub fn from_le_bytes_in(s: &[u8], part: Range<usize>) -> Option<u32> {
 /// use promisebook::u32s;
 /// assert_eq!(u32s::to_le_bytes(16909060), [4, 3, 2, 1]);
 /// ```
+///
+/// Cited by rows C3; clause vstd_number_bytes/Bytes.spec-to-le-bytes; contract
+/// promisebook_number_bytes::pb_u32_to_le_bytes; law vstd_number_bytes/Bytes.to-le-bytes-is; pinned by
+/// theory_lists/Written.pinned-writes; refused number_bytes16/to_le_bytes.highest_first, lowest_twice,
+/// number_bytes16/write_le_bytes.elsewhere, one_place_too_far, byte_behind_changes,
+/// vstd_number_bytes/to_le_bytes.lowest_byte_only, seven_bits, promisebook_number_bytes/to_le_bytes.four_bytes.
 #[inline]
 #[must_use]
 pub fn to_le_bytes(x: u32) -> [u8; 4] {
@@ -516,6 +674,12 @@ pub fn to_le_bytes(x: u32) -> [u8; 4] {
 /// assert_eq!(u32s::to_le_bytes_in(&mut s, 2..5, 16909060), None);
 /// assert_eq!(s, [0, 0, 0, 0, 0]);
 /// ```
+///
+/// Cited by rows C3; clause vstd_number_bytes/Bytes.spec-to-le-bytes; contract
+/// promisebook_number_bytes::pb_u32_to_le_bytes; law vstd_number_bytes/Bytes.to-le-bytes-is; pinned by
+/// theory_lists/Written.pinned-writes; refused number_bytes16/to_le_bytes.highest_first, lowest_twice,
+/// number_bytes16/write_le_bytes.elsewhere, one_place_too_far, byte_behind_changes,
+/// vstd_number_bytes/to_le_bytes.lowest_byte_only, seven_bits, promisebook_number_bytes/to_le_bytes.four_bytes.
 #[inline]
 #[must_use]
 pub fn to_le_bytes_in(s: &mut [u8], part: Range<usize>, x: u32) -> Option<()> {
@@ -529,6 +693,11 @@ pub fn to_le_bytes_in(s: &mut [u8], part: Range<usize>, x: u32) -> Option<()> {
 /// assert_eq!(u32s::from_be_bytes(&[1, 2, 3, 4]), Some(16909060));
 /// assert_eq!(u32s::from_be_bytes(&[2, 3, 4]), None);
 /// ```
+///
+/// Cited by rows C67; clause theory_digits/Number.numberHigh; contract
+/// promisebook_number_bytes::pb_u32_from_be_bytes; law theory_digits/Reading.numberHigh-of-digitsHigh; pinned by
+/// vstd_integers/Pinned.pinned-unsigned-option; refused number_bytes16/from_be_bytes.lowest_first,
+/// two_bytes_for_one.
 #[inline]
 #[must_use]
 pub fn from_be_bytes(s: &[u8]) -> Option<u32> {
@@ -545,6 +714,11 @@ pub fn from_be_bytes(s: &[u8]) -> Option<u32> {
 /// assert_eq!(u32s::from_be_bytes_in(&[9, 2, 3, 4, 9], 1..4), None);
 /// assert_eq!(u32s::from_be_bytes_in(&[9, 2, 3, 4, 9], 1..6), None);
 /// ```
+///
+/// Cited by rows C67; clause theory_digits/Number.numberHigh; contract
+/// promisebook_number_bytes::pb_u32_from_be_bytes; law theory_digits/Reading.numberHigh-of-digitsHigh; pinned by
+/// vstd_integers/Pinned.pinned-unsigned-option; refused number_bytes16/from_be_bytes.lowest_first,
+/// two_bytes_for_one.
 #[inline]
 #[must_use]
 pub fn from_be_bytes_in(s: &[u8], part: Range<usize>) -> Option<u32> {
@@ -557,6 +731,12 @@ pub fn from_be_bytes_in(s: &[u8], part: Range<usize>) -> Option<u32> {
 /// use promisebook::u32s;
 /// assert_eq!(u32s::to_be_bytes(16909060), [1, 2, 3, 4]);
 /// ```
+///
+/// Cited by rows C68; clause theory_digits/Digits.digitsHigh; contract
+/// promisebook_number_bytes::pb_u32_to_be_bytes; law theory_digits/Reading.digitsHigh-of-numberHigh; pinned by
+/// theory_lists/Written.pinned-writes; refused number_bytes16/to_be_bytes.highest_twice, lowest_first,
+/// number_bytes16/write_be_bytes.complement, last_place_is_refused, byte_changes_twice,
+/// promisebook_number_bytes/to_be_bytes.lowest_first.
 #[inline]
 #[must_use]
 pub fn to_be_bytes(x: u32) -> [u8; 4] {
@@ -577,6 +757,12 @@ pub fn to_be_bytes(x: u32) -> [u8; 4] {
 /// assert_eq!(u32s::to_be_bytes_in(&mut s, 2..5, 16909060), None);
 /// assert_eq!(s, [0, 0, 0, 0, 0]);
 /// ```
+///
+/// Cited by rows C68; clause theory_digits/Digits.digitsHigh; contract
+/// promisebook_number_bytes::pb_u32_to_be_bytes; law theory_digits/Reading.digitsHigh-of-numberHigh; pinned by
+/// theory_lists/Written.pinned-writes; refused number_bytes16/to_be_bytes.highest_twice, lowest_first,
+/// number_bytes16/write_be_bytes.complement, last_place_is_refused, byte_changes_twice,
+/// promisebook_number_bytes/to_be_bytes.lowest_first.
 #[inline]
 #[must_use]
 pub fn to_be_bytes_in(s: &mut [u8], part: Range<usize>, x: u32) -> Option<()> {
@@ -600,6 +786,12 @@ pub fn to_be_bytes_in(s: &mut [u8], part: Range<usize>, x: u32) -> Option<()> {
 /// assert_eq!(u32s::read_decimal(b"42"), Ok(42));
 /// assert_eq!(u32s::read_decimal(b"=42"), Err(NotDecimal::NoNumber));
 /// ```
+///
+/// Cited by rows F6; clause theory_decimal/Read.naturalIn, readIn; contract
+/// promisebook_decimal::pb_u32_read_decimal; law theory_decimal/Reading.so-far-all, no-text, past-the-end; pinned
+/// by vstd_integers/Pinned.pinned-unsigned-option; refused decimal_read/read_u64.colon_is_a_figure,
+/// largest_number_refused, last_figure_left_out, nothing_is_zero, runs_over,
+/// decimal_read/read_u8.largest_number_refused, too_large_taken, promisebook_decimal/read_decimal.too_large.
 #[inline]
 pub fn read_decimal(s: &[u8]) -> Result<u32, NotDecimal> {
     let answer = exported::u32_read_decimal(s, 0, s.len());
@@ -618,6 +810,12 @@ pub fn read_decimal(s: &[u8]) -> Result<u32, NotDecimal> {
 /// assert_eq!(u32s::read_decimal_in(s, 2..6), None);
 /// assert_eq!(u32s::read_decimal_in(s, 4..2), None);
 /// ```
+///
+/// Cited by rows F6; clause theory_decimal/Read.naturalIn, readIn; contract
+/// promisebook_decimal::pb_u32_read_decimal; law theory_decimal/Reading.so-far-all, no-text, past-the-end; pinned
+/// by vstd_integers/Pinned.pinned-unsigned-option; refused decimal_read/read_u64.colon_is_a_figure,
+/// largest_number_refused, last_figure_left_out, nothing_is_zero, runs_over,
+/// decimal_read/read_u8.largest_number_refused, too_large_taken, promisebook_decimal/read_decimal.too_large.
 #[inline]
 #[must_use]
 pub fn read_decimal_in(s: &[u8], part: Range<usize>) -> Option<Result<u32, NotDecimal>> {
@@ -648,6 +846,11 @@ pub fn read_decimal_in(s: &[u8], part: Range<usize>) -> Option<Result<u32, NotDe
 /// assert_eq!(u32s::write_decimal(&mut s, 10), None);
 /// assert_eq!(s, *b".");
 /// ```
+///
+/// Cited by rows F8; clause theory_decimal/Written.Shows, natural; contract
+/// promisebook_decimal::pb_u32_write_decimal; law theory_decimal/Showing.natural-shown; pinned by
+/// theory_decimal/Showing.pinned-shows; refused decimal_write/write_u64.last_place_refused, ten_in_one_place,
+/// tens_lost, theory_decimal/shows.refusal_counts_anything.
 #[inline]
 #[must_use]
 pub fn write_decimal(s: &mut [u8], x: u32) -> Option<usize> {
@@ -676,6 +879,11 @@ pub fn write_decimal(s: &mut [u8], x: u32) -> Option<usize> {
 /// assert_eq!(u32s::write_decimal_in(&mut s, 2..1, 7), None);
 /// assert_eq!(s, *b".");
 /// ```
+///
+/// Cited by rows F8; clause theory_decimal/Written.Shows, natural; contract
+/// promisebook_decimal::pb_u32_write_decimal; law theory_decimal/Showing.natural-shown; pinned by
+/// theory_decimal/Showing.pinned-shows; refused decimal_write/write_u64.last_place_refused, ten_in_one_place,
+/// tens_lost, theory_decimal/shows.refusal_counts_anything.
 #[inline]
 #[must_use]
 pub fn write_decimal_in(s: &mut [u8], part: Range<usize>, x: u32) -> Option<usize> {
