@@ -106,14 +106,14 @@ module _ (w : Width) where
           rw (read-back w (a -ℤ b) q, toZ-ofZ f, toZ-ofZ g) (difference-told-by-signs (real-signed (bits w)) (omega (arith, halves w)) a b r (in-signed w f) (in-signed w g) q)
 
     module _ {b : ℕ} (h : b < 2 ^ bits w) where
-      pub rise-told : r ≡ wrap S (toZ w (ofZ w a) +ℤ pos b) → Told S (a +ℤ pos b) r (ltZ (toZ w (ofZ w r)) (toZ w (ofZ w a)))
-      rise-told e =
+      pub unsigned-sum-told : r ≡ wrap S (toZ w (ofZ w a) +ℤ pos b) → Told S (a +ℤ pos b) r (ltZ (toZ w (ofZ w r)) (toZ w (ofZ w a)))
+      unsigned-sum-told e =
           let s = sum a (pos b) in
           one-test
           (below (a +ℤ pos b) (near-sum S refl a (pos b) h (pow-pos (bits w))) (rw (toZ-ofZ f) at e) (not-less (a +ℤ pos b) a (omega arith)))
 
-      pub fall-told : r ≡ wrap S (toZ w (ofZ w a) -ℤ pos b) → Told S (a -ℤ pos b) r (ltZ (toZ w (ofZ w a)) (toZ w (ofZ w r)))
-      fall-told e =
+      pub unsigned-difference-told : r ≡ wrap S (toZ w (ofZ w a) -ℤ pos b) → Told S (a -ℤ pos b) r (ltZ (toZ w (ofZ w a)) (toZ w (ofZ w r)))
+      unsigned-difference-told e =
           let s = difference a (pos b) in
           one-test
           (above (a -ℤ pos b) (near-difference S refl a (pos b) h (pow-pos (bits w))) (rw (toZ-ofZ f) at e) (not-less a (a -ℤ pos b) (omega arith)))
