@@ -1,5 +1,5 @@
 -- Facts by which the number t of digits d at an end of x can be told. Our counts keep all of them, and whatever keeps enough of them is our count.
-use mathlib.Core.Path.{_≡_, sym, _∙_}
+use mathlib.Core.Path.{_≡_, sym}
 use mathlib.Core.Logic.{_↔_}
 use Prim.Native.Nat.{ℕ, zero, suc, _-_, _*_, _/_, _%_, _^_, _≤_, _<_}
 use native.Mathlib.Omega.{arith}
@@ -142,12 +142,3 @@ module _ (d w x t : ℕ) (h : d < 2) (b : x < 2 ^ w) where
   high-by-shift at-most next s =
       let reach = high-reaches d w x t h b at-most s in
       high-by-bits d w x t h at-most next (λ j a l. leading-before d w x j (omega arith) l)
-
--- ---- so the whole list pins its answer
-
-pub low-pinned : (d w x s t : ℕ) → d < 2 → AtLow d w x s → AtLow d w x t → s ≡ t
-low-pinned d w x s t h p q = low-by-bits d w x s h (p .at-most) (p .next) (p .before) ∙ sym (low-by-bits d w x t h (q .at-most) (q .next) (q .before))
-
-pub high-pinned : (d w x s t : ℕ) → d < 2 → AtHigh d w x s → AtHigh d w x t → s ≡ t
-high-pinned d w x s t h p q =
-    high-by-bits d w x s h (p .at-most) (p .next) (p .before) ∙ sym (high-by-bits d w x t h (q .at-most) (q .next) (q .before))
