@@ -32,8 +32,7 @@ module _ {ok : Bool} {s : List ℕ} {f t : ℕ} where
   -- ---- elements
 
   pub get-promised : {x i : ℕ} → Outcome ok (Within f t s × (i < t - f)) (x ≡ getD (part f t s) i 0) (x ≡ 0) → Get ok x s f t i
-  get-promised =
-      outcome-alike (λ p. (p .0, omega (arith, length-part (p .0), p .1))) (λ p. (p .0, omega (arith, length-part (p .0), p .1))) (λ p e. e) (λ z. z)
+  get-promised = outcome-alike (at-place .0) (at-place .1) (λ p e. e) (λ z. z)
 
   pub first-promised : {x : ℕ} → Outcome ok (Within f t s × (f < t)) (x ≡ getD (part f t s) 0 0) (x ≡ 0) → First ok x s f t
   first-promised = outcome-alike (some-element .0) (some-element .1) (λ p e. e) (λ z. z)
@@ -102,7 +101,7 @@ module _ {ok : Bool} {s : List ℕ} {f t : ℕ} where
   module _ {s′ : List ℕ} where
     pub set-promised : {i v : ℕ} → Outcome ok (Within f t s × (i < t - f)) (s′ ≡ written s (f + i) (v ∷ [])) (s′ ≡ s) → Set ok s s′ f t i v
     set-promised {i} {v} =
-        outcome-alike (λ p. (p .0, omega (arith, length-part (p .0), p .1))) (λ p. (p .0, omega (arith, length-part (p .0), p .1)))
+        outcome-alike (at-place .0) (at-place .1)
         (λ p e. rw e (written-updated s (f + i) v (omega (arith, p .0 .ends, p .1)))) (λ z. z)
 
     pub reverse-promised : Outcome ok (Within f t s) (s′ ≡ written s f (reverse (part f t s))) (s′ ≡ s) → Reverse ok s s′ f t
