@@ -85,12 +85,14 @@ module _ (w : Width) where
       pub sum-told : r ≡ wrap S (toZ w (ofZ w a) +ℤ toZ w (ofZ w b)) → Told S (a +ℤ b) r (neither (negative (toZ w (ofZ w a))) (negative (toZ w (ofZ w b))) (negative (toZ w (ofZ w r))))
       sum-told e =
           let q : r ≡ wrap S (a +ℤ b) = rw (toZ-ofZ f, toZ-ofZ g) at e in
-          rw (read-back w (a +ℤ b) q, toZ-ofZ f, toZ-ofZ g) (sum-told-by-signs (real-signed (bits w)) (omega (arith, halves w)) a r (in-signed w f) b (in-signed w g) q)
+          rw (read-back w (a +ℤ b) q, toZ-ofZ f, toZ-ofZ g)
+          (sum-told-by-signs (real-signed (bits w)) (omega (arith, halves w)) a r (in-signed w f) b (in-signed w g) q)
 
       pub difference-told : r ≡ wrap S (toZ w (ofZ w a) -ℤ toZ w (ofZ w b)) → Told S (a -ℤ b) r (both-other (negative (toZ w (ofZ w a))) (negative (toZ w (ofZ w b))) (negative (toZ w (ofZ w r))))
       difference-told e =
           let q : r ≡ wrap S (a -ℤ b) = rw (toZ-ofZ f, toZ-ofZ g) at e in
-          rw (read-back w (a -ℤ b) q, toZ-ofZ f, toZ-ofZ g) (difference-told-by-signs (real-signed (bits w)) (omega (arith, halves w)) a r (in-signed w f) b (in-signed w g) q)
+          rw (read-back w (a -ℤ b) q, toZ-ofZ f, toZ-ofZ g)
+          (difference-told-by-signs (real-signed (bits w)) (omega (arith, halves w)) a r (in-signed w f) b (in-signed w g) q)
 
     module _ {b : ℕ} (h : b < 2 ^ bits w) where
       pub unsigned-sum-told : r ≡ wrap S (toZ w (ofZ w a) +ℤ pos b) → Told S (a +ℤ pos b) r (ltZ (toZ w (ofZ w r)) (toZ w (ofZ w a)))

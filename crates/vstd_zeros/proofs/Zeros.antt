@@ -137,34 +137,40 @@ module _ (d w i : ℕ) (h : d < 2) (b : i < 2 ^ w) (Facts : ℕ → Type 0) wher
       → ((j : ℕ) → j < t → bitAnd (i / 2 ^ j) 1 ≡ d) → Facts t) → Facts (trailing d w i)
   low-kept made =
       let k = low-facts d w i h b in
-      made (trailing d w i) (k .at-most) (k .all) (λ l. lowest (i / 2 ^ trailing d w i) ∙ k .next l) (k .shifted) (λ j l. lowest (i / 2 ^ j) ∙ k .before j l)
+      made (trailing d w i) (k .at-most) (k .all) (λ l. lowest (i / 2 ^ trailing d w i) ∙ k .next l)
+      (k .shifted) (λ j l. lowest (i / 2 ^ j) ∙ k .before j l)
 
   high-kept : (made : (t : ℕ) → AtMost d w i t → All d w i t → (t < w → bitAnd (i / 2 ^ (w - 1 - t)) 1 ≡ 1 - d) → HighShifted d w i t
       → ((j : ℕ) → w - t ≤ j → j < w → bitAnd (i / 2 ^ j) 1 ≡ d) → Facts t) → Facts (leading d w i)
   high-kept made =
       let k = high-facts d w i h b in
-      made (leading d w i) (k .at-most) (k .all) (λ l. lowest (i / 2 ^ (w - 1 - leading d w i)) ∙ k .next l) (k .shifted) (λ j a l. lowest (i / 2 ^ j) ∙ k .before j a l)
+      made (leading d w i) (k .at-most) (k .all) (λ l. lowest (i / 2 ^ (w - 1 - leading d w i)) ∙ k .next l)
+      (k .shifted) (λ j a l. lowest (i / 2 ^ j) ∙ k .before j a l)
 
 module _ (w i : ℕ) (b : i < 2 ^ w) where
   pub trailing-zeros-facts : TrailingZerosFacts w i (vstd-trailing-zeros w i)
   trailing-zeros-facts =
       rw (vstd-trailing-zeros-is w i b)
-      (low-kept 0 w i (omega arith) b (TrailingZerosFacts w i) (λ t m a n s p. record { at-most = m; all = rw zero-mul at a; next = n; shifted = s; before = p }))
+      (low-kept 0 w i (omega arith) b (TrailingZerosFacts w i)
+      (λ t m a n s p. record { at-most = m; all = rw zero-mul at a; next = n; shifted = s; before = p }))
 
   pub trailing-ones-facts : TrailingOnesFacts w i (vstd-trailing-ones w i)
   trailing-ones-facts =
       rw (vstd-trailing-ones-is w i b)
-      (low-kept 1 w i (omega arith) b (TrailingOnesFacts w i) (λ t m a n s p. record { at-most = m; all = rw one-mul at a; next = n; shifted = s; before = p }))
+      (low-kept 1 w i (omega arith) b (TrailingOnesFacts w i)
+      (λ t m a n s p. record { at-most = m; all = rw one-mul at a; next = n; shifted = s; before = p }))
 
   pub leading-zeros-facts : LeadingZerosFacts w i (vstd-leading-zeros w i)
   leading-zeros-facts =
       rw (vstd-leading-zeros-is w i b)
-      (high-kept 0 w i (omega arith) b (LeadingZerosFacts w i) (λ t m a n s p. record { at-most = m; all = rw zero-mul at a; next = λ l e. omega (arith, n l); shifted = s; before = p }))
+      (high-kept 0 w i (omega arith) b (LeadingZerosFacts w i)
+      (λ t m a n s p. record { at-most = m; all = rw zero-mul at a; next = λ l e. omega (arith, n l); shifted = s; before = p }))
 
   pub leading-ones-facts : LeadingOnesFacts w i (vstd-leading-ones w i)
   leading-ones-facts =
       rw (vstd-leading-ones-is w i b)
-      (high-kept 1 w i (omega arith) b (LeadingOnesFacts w i) (λ t m a n s p. record { at-most = m; all = rw one-mul at a; next = n; shifted = s; before = p }))
+      (high-kept 1 w i (omega arith) b (LeadingOnesFacts w i)
+      (λ t m a n s p. record { at-most = m; all = rw one-mul at a; next = n; shifted = s; before = p }))
 
 -- ---- and pin their answer: three of them do
 
