@@ -186,11 +186,15 @@ module _ (p : ℕ → Bool) (f t : ℕ) (s : List ℕ) where
   pub each-of-part : (b : Bool) → Each b (holdsAt p s) f t → Each b (holdsAt p (part f t s)) 0 (length (part f t s))
   each-of-part = each-of (holdsAt p s) (holdsAt p (part f t s)) f t (length (part f t s)) test-in-part (omega (arith, length-take (t - f) (drop f s)))
 
+  pub any-in-part : Within f t s → Any (holdsAt p (part f t s)) 0 (length (part f t s)) → Any (holdsAt p s) f t
+  any-in-part w = any-in (holdsAt p s) (holdsAt p (part f t s)) f t (length (part f t s)) test-in-part (omega (arith, length-part w))
+
+  pub any-of-part : Within f t s → Any (holdsAt p s) f t → Any (holdsAt p (part f t s)) 0 (length (part f t s))
+  any-of-part w = any-of (holdsAt p s) (holdsAt p (part f t s)) f t (length (part f t s)) test-in-part (omega (arith, length-part w))
+
 pub says-any-part : (p : ℕ → Bool) {f t : ℕ} {s : List ℕ} → Within f t s → (ok : Bool) → Says ok (Any (holdsAt p (part f t s)) 0 (length (part f t s)))
     → Says ok (Any (holdsAt p s) f t)
-says-any-part p {f} {t} {s} w ok =
-    says-alike ok (any-in (holdsAt p s) (holdsAt p (part f t s)) f t (length (part f t s)) (test-in-part p f t s) (omega (arith, length-part w)))
-    (any-of (holdsAt p s) (holdsAt p (part f t s)) f t (length (part f t s)) (test-in-part p f t s) (omega (arith, length-part w)))
+says-any-part p {f} {t} {s} w ok = says-alike ok (any-in-part p f t s w) (any-of-part p f t s w)
 
 -- ---- two lists, place by place
 

@@ -18,10 +18,7 @@ use Rattle.vstd_slices.proofs.Tests.{starts-with-says, ends-with-says, 
 use Rattle.vstd_slices.proofs.Written.{written-replaces, copied-within}
 
 module _ {s : List ℕ} {f t : ℕ} where
-  -- there is an element at place i, and there is one at all
-  at-place : {i : ℕ} → (Within f t s × (i < t - f) → Within f t s × (i < length (part f t s))) × (Within f t s × (i < length (part f t s)) → Within f t s × (i < t - f))
-  at-place = ((λ p. (p .0, omega (arith, length-part (p .0), p .1))), (λ p. (p .0, omega (arith, length-part (p .0), p .1))))
-
+  -- there is an element
   some-element : (Within f t s × (f < t) → Within f t s × (0 < length (part f t s))) × (Within f t s × (0 < length (part f t s)) → Within f t s × (f < t))
   some-element = ((λ p. (p .0, omega (arith, length-part (p .0), p .1))), (λ p. (p .0, omega (arith, length-part (p .0), p .1))))
 
@@ -32,7 +29,8 @@ module _ {ok : Bool} {s : List ℕ} {f t : ℕ} where
   -- ---- elements
 
   pub get-promised : {x i : ℕ} → Outcome ok (Within f t s × (i < t - f)) (x ≡ getD (part f t s) i 0) (x ≡ 0) → Get ok x s f t i
-  get-promised = outcome-alike (at-place .0) (at-place .1) (λ p e. e) (λ z. z)
+  get-promised =
+      outcome-alike (λ p. (p .0, omega (arith, length-part (p .0), p .1))) (λ p. (p .0, omega (arith, length-part (p .0), p .1))) (λ p e. e) (λ z. z)
 
   pub first-promised : {x : ℕ} → Outcome ok (Within f t s × (f < t)) (x ≡ getD (part f t s) 0 0) (x ≡ 0) → First ok x s f t
   first-promised = outcome-alike (some-element .0) (some-element .1) (λ p e. e) (λ z. z)
@@ -101,7 +99,7 @@ module _ {ok : Bool} {s : List ℕ} {f t : ℕ} where
   module _ {s′ : List ℕ} where
     pub set-promised : {i v : ℕ} → Outcome ok (Within f t s × (i < t - f)) (s′ ≡ written s (f + i) (v ∷ [])) (s′ ≡ s) → Set ok s s′ f t i v
     set-promised {i} {v} =
-        outcome-alike (at-place .0) (at-place .1)
+        outcome-alike (λ p. (p .0, omega (arith, length-part (p .0), p .1))) (λ p. (p .0, omega (arith, length-part (p .0), p .1)))
         (λ p e. rw e (written-updated s (f + i) v (omega (arith, p .0 .ends, p .1)))) (λ z. z)
 
     pub reverse-promised : Outcome ok (Within f t s) (s′ ≡ written s f (reverse (part f t s))) (s′ ≡ s) → Reverse ok s s′ f t
