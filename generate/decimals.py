@@ -4,7 +4,7 @@ lib.rt.in is how a file begins, with what reads or writes 64 bits; unsigned.rt.i
 proof's template is that of its function, with words in capitals too. proofs/core has those of lib.rt.in."""
 import os
 
-from templates import CRATES, SIGNS, TEMPLATES, WIDTHS, filled, read, templates, type_name, words
+from templates import CRATES, SIGNS, TEMPLATES, WIDTHS, filled, function_name, read, templates, type_name, words
 
 # The kind that lib.rt.in reads or writes, and its width.
 CORE = "u64"
@@ -32,8 +32,8 @@ def crate(name):
         yield os.path.join(place, "proofs", function, "Proof.antt"), proof
     for part, width, table in parts(source):
         lib += filled(templates(source, width)[part], table)
-        for function, proof in proofs(os.path.join(source, "proofs", part), width):
-            yield os.path.join(place, "proofs", filled(function, table), "Proof.antt"), filled(proof, table)
+        for template, proof in proofs(os.path.join(source, "proofs", part), width):
+            yield os.path.join(place, "proofs", function_name(template, table), "Proof.antt"), filled(proof, table)
     yield os.path.join(place, "src", "lib.rt"), lib
 
 

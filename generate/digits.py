@@ -5,7 +5,7 @@ proof's template is that of its function, with words in capitals too."""
 import os
 import re
 
-from templates import CRATES, TEMPLATES, WIDTHS, filled, read, templates, words
+from templates import CRATES, TEMPLATES, WIDTHS, filled, function_name, read, templates, words
 
 # The ends of a number's digits: what is counted there, which digits are left where those at the other end are shifted out, and how they are.
 ENDS = [
@@ -64,8 +64,8 @@ def whole_crates():
             for further in each:
                 table = {**table, **byte_words(width, further), **further}
                 lib += filled(for_each_byte(code[part], width), table)
-                for function, proof in templates(os.path.join(folder, "proofs"), width).items():
-                    yield os.path.join(CRATES, name, "proofs", filled(function, table), "Proof.antt"), filled(for_each_byte(proof, width), table)
+                for template, proof in templates(os.path.join(folder, "proofs"), width).items():
+                    yield os.path.join(CRATES, name, "proofs", function_name(template, table), "Proof.antt"), filled(for_each_byte(proof, width), table)
         yield os.path.join(CRATES, name, "src", "lib.rt"), lib
 
 

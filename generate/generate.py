@@ -7,7 +7,7 @@ decimal_read .. decimal_write, the faces, what the programs have of each kind, t
     python3 generate/generate.py --list    print the paths that it writes
 
 A template is the code itself with some words in capitals (the table `words` in templates.py). NAME.VARIANT.rt.in stands in for NAME.rt.in at the widths of
-that variant."""
+that variant. A word in the name of a proof's template makes it the proof of several functions (the tables of integers.py and digits.py)."""
 import glob
 import os
 import sys
@@ -68,7 +68,7 @@ def main():
     if check:
         missing += [] if missing else list(selftest.faults())
         print("".join(line + "\n" for line in missing) + "generated files: %d, %d wrong; operations: %d faults, %d damages tried" % (
-            len(made), len(changed) + len(strays), len(missing), len(selftest.DAMAGES) + 1,
+            len(made), len(changed) + len(strays), len(missing), len(selftest.DAMAGES) + 2,
         ))
         sys.exit(1 if changed or strays or missing else 0)
     for path in changed:

@@ -5,9 +5,11 @@ import counts
 import declared
 import faces
 import forms
+import integers
 import numbering
 import table
 from bindings import rust_functions, verus
+from templates import WIDTHS
 
 DAMAGES = [
     # file, what stands there, what is put in its place, what the error must say
@@ -81,6 +83,15 @@ def said(texts):
         clear()
 
 
+def said_of_template(name):
+    """What the generator says of a proof's template of this name."""
+    try:
+        list(integers.proofs({name: ""}, WIDTHS[0]))
+        return ""
+    except SystemExit as fault:
+        return str(fault)
+
+
 def faults():
     texts = table.stored()
     for file, old, new, expected in DAMAGES:
@@ -92,3 +103,5 @@ def faults():
             yield "generate/selftest.py: damage goes unnoticed: %r for %r, of which is said: %s" % (new, old, found[:300] or "nothing")
     if "clone: it lacks an independent rule" not in "\n".join(complete.faults(complete.read(complete.RULE).replace("numbered::CLONE", "numbered::COPY"))):
         yield "generate/selftest.py: an operation without a rule in every_pair goes unnoticed"
+    if said_of_template("checked_SUM") or "no table has the word TOTAL" not in said_of_template("checked_TOTAL"):
+        yield "generate/selftest.py: a word in a template's name that no table has goes unnoticed"

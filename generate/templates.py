@@ -97,6 +97,15 @@ def filled(text, table):
     return laid_out(re.sub(r"[A-Za-z0-9_]+", replaced, text))
 
 
+def function_name(template, table):
+    """The function that a proof's template is of: the template's name, each word filled."""
+    name = filled(template, table)
+    left = [part for part in name.split("_") if part.isupper()]
+    if left:
+        raise SystemExit("generate: no table has the word %s, in the name of the template %s" % (", ".join(left), template))
+    return name
+
+
 def laid_out(text):
     """What the formatter decides by columns, which depends on the width's names: an if stands on one line where that takes at most 50, and a function's
     parameters on lines of their own where one line takes more than 100."""

@@ -1,5 +1,5 @@
 -- Facts by which the number t of digits d at an end of x can be told. Our counts keep all of them, and whatever keeps enough of them is our count.
-use mathlib.Core.Path.{_≡_, sym, _∙_}
+use mathlib.Core.Path.{_≡_, sym}
 use mathlib.Core.Logic.{_↔_}
 use Prim.Native.Nat.{ℕ, zero, suc, _-_, _*_, _/_, _%_, _^_, _≤_, _<_}
 use native.Mathlib.Omega.{arith}
@@ -64,18 +64,19 @@ pub record AtHigh (d w x t : ℕ) : Type 0 where
 complement-below : (w x : ℕ) → 2 ^ w - 1 - x < 2 ^ w
 complement-below w x = omega (arith, pow-pos w)
 
-low-shifted : (d w x : ℕ) → d < 2 → x < 2 ^ w → LowShifted d w x (trailing d w x)
-low-shifted zero w x h b = trailing-shifted x (trailing-within 0 w x) .0 (omega arith)
-low-shifted (suc zero) w x h b =
-    rw (trailing-ones w b) (trailing-shifted (2 ^ w - 1 - x) (trailing-within 0 w (2 ^ w - 1 - x)) .0 (omega arith))
-low-shifted (suc (suc d)) w x h b = absurd (omega arith)
+-- t digits d at an end are told by what a shift leaves, where zeros are and ones are the zeros of the complement
+module _ (count : ℕ → ℕ → ℕ → ℕ) (Left : (w x t : ℕ) → Type 0)
+    (zeros : (w x t : ℕ) → x < 2 ^ w → t ≤ w → (t ≤ count 0 w x) ↔ Left w x t) (ones : (w x : ℕ) → x < 2 ^ w → count 1 w x ≡ count 0 w (2 ^ w - 1 - x)) where
+  told-by-shift : (d w x t : ℕ) → d < 2 → x < 2 ^ w → t ≤ w → (t ≤ count d w x) ↔ Left w (apart d w x) t
+  told-by-shift zero w x t h b l = zeros w x t b l
+  told-by-shift (suc zero) w x t h b l = rw (ones w x b) (zeros w (2 ^ w - 1 - x) t (complement-below w x) l)
+  told-by-shift (suc (suc d)) w x t h b l = absurd (omega arith)
 
-high-shifted : (d w x : ℕ) → d < 2 → x < 2 ^ w → HighShifted d w x (leading d w x)
-high-shifted zero w x h b = leading-shifted x (leading-within 0 w x) b .0 (omega arith)
-high-shifted (suc zero) w x h b =
-    rw (leading-ones w b)
-    (leading-shifted (2 ^ w - 1 - x) (leading-within 0 w (2 ^ w - 1 - x)) (complement-below w x) .0 (omega arith))
-high-shifted (suc (suc d)) w x h b = absurd (omega arith)
+low-shifted : (d w x t : ℕ) → d < 2 → x < 2 ^ w → t ≤ w → (t ≤ trailing d w x) ↔ LowShifted d w x t
+low-shifted = told-by-shift trailing (λ w x t. x * 2 ^ (w - t) % 2 ^ w ≡ 0) (λ w x t b l. trailing-shifted x l) (λ w x b. trailing-ones w b)
+
+high-shifted : (d w x t : ℕ) → d < 2 → x < 2 ^ w → t ≤ w → (t ≤ leading d w x) ↔ HighShifted d w x t
+high-shifted = told-by-shift leading (λ w x t. x / 2 ^ (w - t) ≡ 0) (λ w x t b l. leading-shifted x l b) (λ w x b. leading-ones w b)
 
 module _ (d w x : ℕ) (h : d < 2) (b : x < 2 ^ w) where
   pub low-facts : AtLow d w x (trailing d w x)
@@ -83,7 +84,7 @@ module _ (d w x : ℕ) (h : d < 2) (b : x < 2 ^ w) where
     at-most = trailing-within d w x;
     all = trailing-all h b;
     next = λ l. (let n : x / 2 ^ trailing d w x % 2 ≡ d → ⊥ = trailing-ended d w x l in omega arith);
-    shifted = low-shifted d w x h b;
+    shifted = low-shifted d w x (trailing d w x) h b (trailing-within d w x) .0 (omega arith);
     before = trailing-before d w x;
   }
 
@@ -92,7 +93,7 @@ module _ (d w x : ℕ) (h : d < 2) (b : x < 2 ^ w) where
     at-most = leading-within d w x;
     all = leading-all h b;
     next = λ l. (let n : x / 2 ^ (w - 1 - leading d w x) % 2 ≡ d → ⊥ = leading-ended d w x l in omega arith);
-    shifted = high-shifted d w x h b;
+    shifted = high-shifted d w x (leading d w x) h b (leading-within d w x) .0 (omega arith);
     before = leading-before d w x;
   }
 
@@ -106,48 +107,28 @@ module _ (d w x t : ℕ) (h : d < 2) where
   high-by-bits at-most next before = leading-is d w x t at-most before (λ l e. omega (arith, next l))
 
   -- `all` in place of `at-most`: where every digit is d there is no more to count
+  no-more-by-all : {c : ℕ} → All d w x c → All d w x t → (w < t → w ≡ c) → AtMost d w x t
+  no-more-by-all counted all full = let short : w < t → ⊥ = λ l. omega (arith, all .0 (counted .1 (sym (full l)))) in omega arith
+
   module _ (b : x < 2 ^ w) where
     pub low-by-all : All d w x t → LowNext d w x t → LowBefore d w x t → t ≡ trailing d w x
     low-by-all all next before =
-        let short : w < t → ⊥ = λ l.
-        (let full : w ≡ trailing d w x = trailing-is d w x w (omega arith) (λ j g. before j (omega arith)) (λ g e. omega arith) in
-        omega (arith, all .0 (trailing-all h b .1 (sym full)))) in
-        low-by-bits (omega arith) next before
+        low-by-bits (no-more-by-all (trailing-all h b) all
+        (λ l. trailing-is d w x w (omega arith) (λ j g. before j (omega arith)) (λ g e. omega arith))) next before
 
     pub high-by-all : All d w x t → HighNext d w x t → HighBefore d w x t → t ≡ leading d w x
     high-by-all all next before =
-        let short : w < t → ⊥ = λ l.
-        (let full : w ≡ leading d w x = leading-is d w x w (omega arith) (λ j a g. before j (omega arith) g) (λ g e. omega arith) in
-        omega (arith, all .0 (leading-all h b .1 (sym full)))) in
-        high-by-bits (omega arith) next before
+        high-by-bits (no-more-by-all (leading-all h b) all
+        (λ l. leading-is d w x w (omega arith) (λ j a g. before j (omega arith) g) (λ g e. omega arith))) next before
 
 -- `shifted` in place of `before`
-low-reaches : (d w x t : ℕ) → d < 2 → x < 2 ^ w → t ≤ w → LowShifted d w x t → t ≤ trailing d w x
-low-reaches zero w x t h b at-most s = trailing-shifted x at-most .1 s
-low-reaches (suc zero) w x t h b at-most s = rw (trailing-ones w b) (trailing-shifted (2 ^ w - 1 - x) at-most .1 s)
-low-reaches (suc (suc d)) w x t h b at-most s = absurd (omega arith)
-
-high-reaches : (d w x t : ℕ) → d < 2 → x < 2 ^ w → t ≤ w → HighShifted d w x t → t ≤ leading d w x
-high-reaches zero w x t h b at-most s = leading-shifted x at-most b .1 s
-high-reaches (suc zero) w x t h b at-most s = rw (leading-ones w b) (leading-shifted (2 ^ w - 1 - x) at-most (complement-below w x) .1 s)
-high-reaches (suc (suc d)) w x t h b at-most s = absurd (omega arith)
-
 module _ (d w x t : ℕ) (h : d < 2) (b : x < 2 ^ w) where
   pub low-by-shift : AtMost d w x t → LowNext d w x t → LowShifted d w x t → t ≡ trailing d w x
   low-by-shift at-most next s =
-      let reach = low-reaches d w x t h b at-most s in
+      let reach = low-shifted d w x t h b at-most .1 s in
       low-by-bits d w x t h at-most next (λ j l. trailing-before d w x j (omega arith))
 
   pub high-by-shift : AtMost d w x t → HighNext d w x t → HighShifted d w x t → t ≡ leading d w x
   high-by-shift at-most next s =
-      let reach = high-reaches d w x t h b at-most s in
+      let reach = high-shifted d w x t h b at-most .1 s in
       high-by-bits d w x t h at-most next (λ j a l. leading-before d w x j (omega arith) l)
-
--- ---- so the whole list pins its answer
-
-pub low-pinned : (d w x s t : ℕ) → d < 2 → AtLow d w x s → AtLow d w x t → s ≡ t
-low-pinned d w x s t h p q = low-by-bits d w x s h (p .at-most) (p .next) (p .before) ∙ sym (low-by-bits d w x t h (q .at-most) (q .next) (q .before))
-
-pub high-pinned : (d w x s t : ℕ) → d < 2 → AtHigh d w x s → AtHigh d w x t → s ≡ t
-high-pinned d w x s t h p q =
-    high-by-bits d w x s h (p .at-most) (p .next) (p .before) ∙ sym (high-by-bits d w x t h (q .at-most) (q .next) (q .before))

@@ -1,17 +1,16 @@
 -- Lists of numbers that are all below one: by index, of joined lists and of parts, and as a test of each place.
-use mathlib.Core.Path.{_≡_, subst}
-use mathlib.Core.Bool.{Bool}
+use mathlib.Core.Bool.{Bool, true}
 use mathlib.Core.List.{List, [], _∷_, _++_, reverse, reverse-cons}
-use Prim.Native.Nat.{ℕ, zero, suc, _+_, _-_, _≤_, _<_}
+use Prim.Native.Nat.{ℕ, zero, suc, _-_, _≤_, _<_}
 use native.Mathlib.Omega.{arith}
-use lib.ListN.{length, getD, take, drop, length-take}
+use lib.ListN.{length, getD, take, drop}
 use borrow.Author.Tests.{lt-ltb, ltb-true}
 use Rattle.theory_answers.specs.Says.{Says}
 use Rattle.theory_answers.proofs.Says.{says-alike}
 use Rattle.theory_lists.specs.Part.{part, Within}
 use Rattle.theory_lists.specs.Bounds.{AllBelow}
 use Rattle.theory_lists.specs.Search.{All, holdsAt, below}
-use Rattle.theory_lists.proofs.Part.{length-part, getD-part, part-whole}
+use Rattle.theory_lists.proofs.Search.{each-in-part, each-of-part}
 
 pub below-at : (b i : ℕ) (ds : List ℕ) → AllBelow b ds → i < length ds → getD ds i 0 < b
 unfolding AllBelow
@@ -51,34 +50,30 @@ unfolding AllBelow
 below-reverse b [] h = tt
 below-reverse b (d ∷ ds) h = rw reverse-cons (below-append b (reverse ds) (d ∷ []) (below-reverse b ds (h .1)) (h .0, tt))
 
--- ---- parts
+pub part-below : (b : ℕ) (s : List ℕ) (f t : ℕ) → AllBelow b s → AllBelow b (part f t s)
+part-below b s f t h = below-take b (t - f) (drop f s) (below-drop b f s h)
+
+-- ---- as a test of each place, of the whole and of a part
 
 module _ (b : ℕ) (s : List ℕ) where
-  pub part-below : (f t : ℕ) → AllBelow b s → AllBelow b (part f t s)
-  part-below f t h = below-take b (t - f) (drop f s) (below-drop b f s h)
+  each-is-below : AllBelow b s → All (holdsAt (below b) s) 0 (length s)
+  each-is-below h k l m = lt-ltb (getD s k 0) b (below-at b k s h m)
+
+  below-is-each : All (holdsAt (below b) s) 0 (length s) → AllBelow b s
+  below-is-each x = all-below b s (λ k l. ltb-true (getD s k 0) b (x k (omega arith) l))
+
+  pub says-below : (ok : Bool) → Says ok (All (holdsAt (below b) s) 0 (length s)) → Says ok (AllBelow b s)
+  says-below ok = says-alike ok below-is-each each-is-below
+
+module _ (b : ℕ) (s : List ℕ) where
+  pub below-is-all : {f t : ℕ} → Within f t s → AllBelow b (part f t s) → All (holdsAt (below b) s) f t
+  below-is-all {f} {t} w h = each-in-part (below b) f t s w true (each-is-below b (part f t s) h)
 
   pub below-in-part : {f t : ℕ} → Within f t s → AllBelow b (part f t s) → (j : ℕ) → f ≤ j → j < t → getD s j 0 < b
-  below-in-part {f} {t} w h j l m =
-      let e : f + (j - f) ≡ j = omega arith in
-      subst (λ (k : ℕ). getD s k 0 < b) e
-      (rw (getD-part f t s (j - f) (omega arith)) at (below-at b (j - f) (part f t s) h (omega (arith, length-part w))))
-
-  -- ---- as a test of each place
-
-  pub below-is-all : {f t : ℕ} → Within f t s → AllBelow b (part f t s) → All (holdsAt (below b) s) f t
-  below-is-all w h k l m = lt-ltb (getD s k 0) b (below-in-part w h k l m)
+  below-in-part w h j l m = ltb-true (getD s j 0) b (below-is-all w h j l m)
 
   pub all-is-below : (f t : ℕ) → All (holdsAt (below b) s) f t → AllBelow b (part f t s)
-  all-is-below f t x =
-      all-below b (part f t s)
-      (λ k l.
-      let m : k < t - f = omega (arith, length-take (t - f) (drop f s)) in
-      rw (getD-part f t s k m) (ltb-true (getD s (f + k) 0) b (x (f + k) (omega arith) (omega arith))))
+  all-is-below f t x = below-is-each b (part f t s) (each-of-part (below b) f t s true x)
 
   pub says-part-below : (ok : Bool) {f t : ℕ} → Within f t s → Says ok (AllBelow b (part f t s)) → Says ok (All (holdsAt (below b) s) f t)
   says-part-below ok {f} {t} w = says-alike ok (below-is-all w) (all-is-below f t)
-
-  pub says-below : (ok : Bool) → Says ok (All (holdsAt (below b) s) 0 (length s)) → Says ok (AllBelow b s)
-  says-below ok =
-      says-alike ok (λ x. rw part-whole at (all-is-below 0 (length s) x))
-      (λ h k l m. lt-ltb (getD s k 0) b (below-at b k s h m))

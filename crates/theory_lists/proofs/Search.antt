@@ -6,10 +6,10 @@ use mathlib.Core.Logic.{_⊎_, inl, inr, ⊎-elim}
 use Prim.Native.Nat.{ℕ, _+_, _-_, _≤_, _<_}
 use native.Mathlib.Decide.{decLt}
 use native.Mathlib.Omega.{arith}
-use lib.ListN.{length, getD}
+use lib.ListN.{length, getD, drop, length-take}
 use lib.Seq.{ext-getD}
 use borrow.Author.Tests.{eqb-true, eq-eqb}
-use Rattle.theory_answers.specs.Says.{Says, Outcome}
+use Rattle.theory_answers.specs.Says.{Says}
 use Rattle.theory_answers.proofs.Says.{says-alike}
 use Rattle.theory_answers.proofs.Tests.{says-both, says-either}
 use Rattle.theory_lists.specs.Search.{Each, All, None, Any, First, Last, Until, holdsAt, alikeAt}
@@ -131,62 +131,70 @@ module _ (q : ℕ → Bool) where
 
   -- ---- one question has one answer
 
+  until-not-sooner : {f t k l : ℕ} → Until q f t k → Until q f t l → k < l → ⊥
+  until-not-sooner {f} {t} {k} {l} x y h = true-or-false (q k) (x .holds (omega (arith, y .before))) (y .none k (x .after) h)
+
   pub pinned-until : {f t k l : ℕ} → Until q f t k → Until q f t l → k ≡ l
-  pinned-until {f} {t} {k} {l} x y = go (decLt k l) (decLt l k)
-    where
-      go : Dec (k < l) → Dec (l < k) → k ≡ l
-      go (yes h) _ = absurd (true-or-false (q k) (x .holds (omega (arith, y .before))) (y .none k (x .after) h))
-      go (no _) (yes h) = absurd (true-or-false (q l) (y .holds (omega (arith, x .before))) (x .none l (y .after) h))
-      go (no h) (no m) = omega arith
+  pinned-until {f} {t} {k} {l} x y =
+      let sooner : k < l → ⊥ = until-not-sooner x y in
+      let later : l < k → ⊥ = until-not-sooner y x in
+      omega arith
 
   pub pinned-first : {f t k l : ℕ} → First q f t k → First q f t l → k ≡ l
   pinned-first x y = pinned-until (first-until x) (first-until y)
 
+  last-not-sooner : {f t k l : ℕ} → Last q f t k → Last q f t l → k < l → ⊥
+  last-not-sooner {f} {t} {k} {l} x y h = true-or-false (q l) (y .holds) (x .none l (omega arith) (y .before))
+
   pub pinned-last : {f t k l : ℕ} → Last q f t k → Last q f t l → k ≡ l
-  pinned-last {f} {t} {k} {l} x y = go (decLt k l) (decLt l k)
-    where
-      go : Dec (k < l) → Dec (l < k) → k ≡ l
-      go (yes h) _ = absurd (true-or-false (q l) (y .holds) (x .none l (omega arith) (y .before)))
-      go (no _) (yes h) = absurd (true-or-false (q k) (x .holds) (y .none k (omega arith) (x .before)))
-      go (no h) (no m) = omega arith
+  pinned-last {f} {t} {k} {l} x y =
+      let sooner : k < l → ⊥ = last-not-sooner x y in
+      let later : l < k → ⊥ = last-not-sooner y x in
+      omega arith
 
--- ---- a part of s, asked for itself
+-- ---- a part, asked for itself: r is of its n places what q is of those of the whole
 
-module _ (p : ℕ → Bool) {f t : ℕ} {s : List ℕ} (w : Within f t s) where
-  pub each-in-part : (b : Bool) → Each b (holdsAt p (part f t s)) 0 (length (part f t s)) → Each b (holdsAt p s) f t
-  each-in-part b x k h l =
+module _ (q r : ℕ → Bool) (f t n : ℕ) (same : (k : ℕ) → k < t - f → r k ≡ q (f + k)) where
+  each-in : t - f ≤ n → (b : Bool) → Each b r 0 n → Each b q f t
+  each-in m b x k h l =
       let e : f + (k - f) ≡ k = omega arith in
-      ap (λ (i : ℕ). p (getD s i 0)) (sym e) ∙ ap p (sym (getD-part f t s (k - f) (omega arith)))
-      ∙ x (k - f) (omega arith) (omega (arith, length-part w))
+      ap q (sym e) ∙ sym (same (k - f) (omega arith)) ∙ x (k - f) (omega arith) (omega arith)
+
+  each-of : n ≤ t - f → (b : Bool) → Each b q f t → Each b r 0 n
+  each-of m b x k h l = same k (omega arith) ∙ x (f + k) (omega arith) (omega arith)
+
+  any-in : n ≤ t - f → Any r 0 n → Any q f t
+  any-in m x =
+      let l : x .place < t - f = omega (arith, x .before) in
+      record { place = f + x .place; after = omega arith; before = omega arith; holds = sym (same (x .place) l) ∙ x .holds }
+
+  any-of : t - f ≤ n → Any q f t → Any r 0 n
+  any-of m x =
+      let l : x .place - f < t - f = omega (arith, x .after, x .before) in
+      let e : f + (x .place - f) ≡ x .place = omega (arith, x .after) in
+      record { place = x .place - f; after = omega arith; before = omega arith; holds = same (x .place - f) l ∙ ap q e ∙ x .holds }
+
+-- a test of a byte
+
+module _ (p : ℕ → Bool) (f t : ℕ) (s : List ℕ) where
+  test-in-part : (k : ℕ) → k < t - f → holdsAt p (part f t s) k ≡ holdsAt p s (f + k)
+  test-in-part k l = ap p (getD-part f t s k l)
+
+  pub each-in-part : Within f t s → (b : Bool) → Each b (holdsAt p (part f t s)) 0 (length (part f t s)) → Each b (holdsAt p s) f t
+  each-in-part w = each-in (holdsAt p s) (holdsAt p (part f t s)) f t (length (part f t s)) test-in-part (omega (arith, length-part w))
 
   pub each-of-part : (b : Bool) → Each b (holdsAt p s) f t → Each b (holdsAt p (part f t s)) 0 (length (part f t s))
-  each-of-part b x k h l =
-      let m : k < t - f = omega (arith, length-part w) in
-      ap p (getD-part f t s k m) ∙ x (f + k) (omega arith) (omega arith)
+  each-of-part = each-of (holdsAt p s) (holdsAt p (part f t s)) f t (length (part f t s)) test-in-part (omega (arith, length-take (t - f) (drop f s)))
 
-  pub any-in-part : Any (holdsAt p (part f t s)) 0 (length (part f t s)) → Any (holdsAt p s) f t
-  any-in-part x =
-      let m : x .place < t - f = omega (arith, x .before, length-part w) in
-      record {
-        place = f + x .place;
-        after = omega arith;
-        before = omega arith;
-        holds = ap p (sym (getD-part f t s (x .place) m)) ∙ x .holds;
-      }
+  pub any-in-part : Within f t s → Any (holdsAt p (part f t s)) 0 (length (part f t s)) → Any (holdsAt p s) f t
+  any-in-part w = any-in (holdsAt p s) (holdsAt p (part f t s)) f t (length (part f t s)) test-in-part (omega (arith, length-part w))
 
-  pub any-of-part : Any (holdsAt p s) f t → Any (holdsAt p (part f t s)) 0 (length (part f t s))
-  any-of-part x =
-      let m : x .place - f < t - f = omega (arith, x .after, x .before) in
-      let e : f + (x .place - f) ≡ x .place = omega (arith, x .after) in
-      record {
-        place = x .place - f;
-        after = omega arith;
-        before = omega (arith, length-part w);
-        holds = ap p (getD-part f t s (x .place - f) m) ∙ ap (λ (i : ℕ). p (getD s i 0)) e ∙ x .holds;
-      }
+  pub any-of-part : Within f t s → Any (holdsAt p s) f t → Any (holdsAt p (part f t s)) 0 (length (part f t s))
+  any-of-part w = any-of (holdsAt p s) (holdsAt p (part f t s)) f t (length (part f t s)) test-in-part (omega (arith, length-part w))
 
-  pub says-any-part : (ok : Bool) → Says ok (Any (holdsAt p (part f t s)) 0 (length (part f t s))) → Says ok (Any (holdsAt p s) f t)
-  says-any-part ok = says-alike ok any-in-part any-of-part
+pub says-any-part : (p : ℕ → Bool) {f t : ℕ} {s : List ℕ} → Within f t s → (ok : Bool) → Says ok (Any (holdsAt p (part f t s)) 0 (length (part f t s)))
+    → Says ok (Any (holdsAt p s) f t)
+says-any-part p {f} {t} {s} w ok = says-alike ok (any-in-part p f t s w) (any-of-part p f t s w)
 
 -- ---- two lists, place by place
 
@@ -197,23 +205,21 @@ module _ (a b : List ℕ) where
   pub alike-same : length a ≡ length b → All (alikeAt a b) 0 (length a) → a ≡ b
   alike-same e x = ext-getD 0 a b e (λ k l. eqb-true (getD a k 0) (getD b k 0) (x k (omega arith) l))
 
-  pub alike-in-parts : {f t : ℕ} → Within f t a → Within f t b → part f t a ≡ part f t b → All (alikeAt a b) f t
-  alike-in-parts {f} {t} w v e k h l =
-      let n : f + (k - f) ≡ k = omega arith in
-      let m : k - f < t - f = omega arith in
-      let c = ap (λ (i : ℕ). getD a i 0) (sym n) ∙ sym (getD-part f t a (k - f) m) in
-      let d = getD-part f t b (k - f) m ∙ ap (λ (i : ℕ). getD b i 0) n in
-      eq-eqb (getD a k 0) (getD b k 0) (c ∙ ap (λ (s : List ℕ). getD s (k - f) 0) e ∙ d)
-
-  pub parts-alike : {f t : ℕ} → Within f t a → Within f t b → All (alikeAt a b) f t → part f t a ≡ part f t b
-  parts-alike {f} {t} w v x =
-      ext-getD 0 (part f t a) (part f t b) (length-part w ∙ sym (length-part v))
-      (λ k l.
-      let m : k < t - f = omega (arith, length-part w) in
-      getD-part f t a k m ∙ eqb-true (getD a (f + k) 0) (getD b (f + k) 0) (x (f + k) (omega arith) (omega arith)) ∙ sym (getD-part f t b k m))
-
   pub says-same : (ok : Bool) → length a ≡ length b → Says ok (All (alikeAt a b) 0 (length a)) → Says ok (a ≡ b)
   says-same ok e = says-alike ok (alike-same e) (same-alike 0 (length a))
 
-  pub says-same-part : (ok : Bool) {f t : ℕ} → Within f t a → Within f t b → Says ok (part f t a ≡ part f t b) → Says ok (All (alikeAt a b) f t)
-  says-same-part ok w v = says-alike ok (alike-in-parts w v) (parts-alike w v)
+module _ (a b : List ℕ) {f t : ℕ} (w : Within f t a) (v : Within f t b) where
+  alike-in-part : (k : ℕ) → k < t - f → alikeAt (part f t a) (part f t b) k ≡ alikeAt a b (f + k)
+  alike-in-part k l = rw (getD-part f t a k l, getD-part f t b k l)
+
+  pub alike-in-parts : part f t a ≡ part f t b → All (alikeAt a b) f t
+  alike-in-parts e =
+      each-in (alikeAt a b) (alikeAt (part f t a) (part f t b)) f t (t - f) alike-in-part (omega arith) true (same-alike (part f t a) (part f t b) 0 (t - f) e)
+
+  pub parts-alike : All (alikeAt a b) f t → part f t a ≡ part f t b
+  parts-alike x =
+      alike-same (part f t a) (part f t b) (length-part w ∙ sym (length-part v))
+      (each-of (alikeAt a b) (alikeAt (part f t a) (part f t b)) f t (length (part f t a)) alike-in-part (omega (arith, length-part w)) true x)
+
+pub says-same-part : (a b : List ℕ) (ok : Bool) {f t : ℕ} → Within f t a → Within f t b → Says ok (part f t a ≡ part f t b) → Says ok (All (alikeAt a b) f t)
+says-same-part a b ok w v = says-alike ok (alike-in-parts a b w v) (parts-alike a b w v)

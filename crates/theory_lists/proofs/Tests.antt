@@ -17,19 +17,29 @@ says-empty {f} {t} {s} w =
     let l = length-part w in
     says-alike (eqb f t) (λ e. omega arith) (λ e. omega arith) (says-equal f t)
 
--- ---- the front and the back of a part, beside another list
+-- ---- beside another list
+
+-- x is a piece of the part f..t of s, and is what stands from a up to e where the part is as long as the other
+pub record Piece (f t : ℕ) (s other x : List ℕ) (a e : ℕ) : Type 0 where
+  pub short : length x ≤ t - f
+  pub stands : length other ≤ t - f → x ≡ part a e s
 
 module _ (f t : ℕ) (s other : List ℕ) (w : Within f t s) where
-  pub longer-no-front : t - f < length other → take (length other) (part f t s) ≡ other → ⊥
-  longer-no-front h e = omega (arith, ap length e, length-take (length other) (part f t s), length-part w)
+  pub front : Piece f t s other (take (length other) (part f t s)) f (f + length other)
+  front = record {
+    short = omega (arith, length-take (length other) (part f t s), length-part w);
+    stands = λ h. take-part (length other) f t s (omega (arith, w .ordered));
+  }
 
-  pub longer-no-back : t - f < length other → drop (t - f - length other) (part f t s) ≡ other → ⊥
-  longer-no-back h e = omega (arith, ap length e, length-drop (t - f - length other) (part f t s), length-part w)
+  pub back : Piece f t s other (drop (t - f - length other) (part f t s)) (t - length other) t
+  back = record {
+    short = omega (arith, length-drop (t - f - length other) (part f t s), length-part w);
+    stands = λ h. let e : f + (t - f - length other) ≡ t - length other = omega (arith, w .ordered) in rw (drop-part, e);
+  }
 
-  pub says-front : (ok : Bool) → length other ≤ t - f → Says ok (part f (f + length other) s ≡ other) → Says ok (take (length other) (part f t s) ≡ other)
-  says-front ok h k = rw (take-part (length other) f t s (omega arith)) k
+module _ {f t : ℕ} {s other x : List ℕ} {a e : ℕ} (p : Piece f t s other x a e) where
+  pub longer-is-not-there : t - f < length other → x ≡ other → ⊥
+  longer-is-not-there h q = omega (arith, ap length q, p .short)
 
-  pub says-back : (ok : Bool) → length other ≤ t - f → Says ok (part (t - length other) t s ≡ other) → Says ok (drop (t - f - length other) (part f t s) ≡ other)
-  says-back ok h k =
-      let e : f + (t - f - length other) ≡ t - length other = omega arith in
-      rw (drop-part (t - f - length other) f t s, e) k
+  pub says-there : (ok : Bool) → length other ≤ t - f → Says ok (part a e s ≡ other) → Says ok (x ≡ other)
+  says-there ok h k = rw (p .stands h) k

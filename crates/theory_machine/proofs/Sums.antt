@@ -1,7 +1,7 @@
 -- Sums and differences as signed code makes them: through the bits of the unsigned operation, and told by what they wrap to.
 use mathlib.Core.Path.{_≡_, refl, _∙_}
 use mathlib.Core.Bool.{Bool, true, false, not, Bool·beq}
-use Prim.Native.Nat.{ℕ, _+_, _^_, _<_}
+use Prim.Native.Nat.{ℕ, _^_, _<_}
 use native.Mathlib.Omega.{arith}
 use lib.Pow.{pow-pos}
 use lib.IntN.{ℤ, pos, negsuc, _+ℤ_, _-ℤ_}
@@ -13,18 +13,18 @@ use mir.Facts.{toZ-ofZ}
 use Rattle.theory_whole.specs.Kind.{Kind, unsigned, signed}
 use Rattle.theory_answers.specs.Answer.{Answers}
 use Rattle.theory_whole.specs.Fit.{wrap, refuse}
-use Rattle.theory_whole.proofs.Halves.{up, down, sum, difference}
+use Rattle.theory_whole.proofs.Halves.{up, down, sum, difference, not-lt}
 use Rattle.theory_whole.proofs.Alike.{Alike, alike-itself, alike-add}
-use Rattle.theory_whole.proofs.Fits.{real-unsigned, real-signed}
+use Rattle.theory_whole.proofs.Fits.{In, real-unsigned, real-signed}
 use Rattle.theory_whole.proofs.Wrap.{wrap-op, wrap-again, wrapped-alike}
 use Rattle.theory_whole.proofs.Unsigned.{in-unsigned}
-use Rattle.theory_whole.proofs.Overflow.{Less, Told, Near, tested, not-less, sum-tested, told-below, told-above, no-overflow, overflow}
+use Rattle.theory_whole.proofs.Overflow.{Told, Near, sum-below, told-below, told-above, no-overflow, overflow}
 use Rattle.theory_whole.proofs.Signs.{negative, neither, both-other, sum-told-by-signs, difference-told-by-signs}
 use Rattle.theory_machine.proofs.Bits.{halves, in-signed, read-back}
 
--- where the other test is known to fail
-one-test : {k : Kind} {z r : ℤ} {u : Bool} → Told k z r (not (Bool·beq false u)) → Told k z r u
-one-test {k} {z} {r} {u} told = record { wraps = told .wraps; tells = by u ∙ told .tells }
+-- where the first test is known to fail
+one-test : {k : Kind} {z r : ℤ} {t u : Bool} → t ≡ false → Told k z r (not (Bool·beq t u)) → Told k z r u
+one-test {k} {z} {r} {t} {u} n told = record { wraps = told .wraps; tells = by u ∙ (rw n at (told .tells)) }
   where
     by : (u : Bool) → u ≡ not (Bool·beq false u)
     by true = refl
@@ -67,56 +67,52 @@ module _ (w : Width) where
       to (pos n) h = (omega (arith, halves w), omega (arith, pow-pos (bits w)))
       to (negsuc n) h = (omega (arith, pow-pos (bits w)), omega (arith, halves w, pow-pos (hbits w)))
 
-  module _ (k : Kind) (same : k .size ≡ 2 ^ bits w) (a b : ℤ) (u : up b < 2 ^ bits w) (d : down b < 2 ^ bits w) where
-    near-sum : Near k a (a +ℤ b)
-    near-sum = let s = sum a b in record { from-below = omega arith; from-above = omega arith }
-
-    near-difference : Near k a (a -ℤ b)
-    near-difference = let s = difference a b in record { from-below = omega arith; from-above = omega arith }
+  near-sum : {k : Kind} → k .size ≡ 2 ^ bits w → {a : ℤ} → In k a → (b : ℤ) → up b < 2 ^ bits w → down b < 2 ^ bits w → Near k a (a +ℤ b)
+  near-sum same {a} i b u d =
+      let s = sum a b in
+      record { first = i .above; last = omega (arith, i .below); from-below = omega arith; from-above = omega arith }
 
   -- ---- the test that code makes is that the number does not fit
   pub mixed-sum-told : {a r : ℕ} {b : ℤ} → a < 2 ^ bits w → SFits w b → pos r ≡ wrap U (pos a +ℤ toZ w (ofZ w b))
       → Told U (pos a +ℤ b) (pos r) (not (Bool·beq (ltZ (toZ w (ofZ w b)) (pos 0)) (ltb r a)))
   mixed-sum-told {a} {r} {b} h g e =
       let m = smaller g in
-      rw (toZ-ofZ g)
-      (told-below (real-unsigned (bits w)) (pos a) (pos a +ℤ b) (pos r) (in-unsigned (bits w) h) (near-sum U refl (pos a) b (m .0) (m .1)) (rw (toZ-ofZ g) at e)
-      (sum-tested (pos a) b) (tested (pos r) (pos a)))
+      rw (toZ-ofZ g, ← sum-below (pos a) b)
+      (told-below (real-unsigned (bits w)) (pos a) (pos a +ℤ b) (pos r) (rw (toZ-ofZ g) at e) (near-sum refl (in-unsigned (bits w) h) b (m .0) (m .1)))
 
   module _ {a r : ℤ} (f : SFits w a) where
-    module _ (z : ℤ) (near : Near S a z) (e : r ≡ wrap S z) where
-      back : toZ w (ofZ w r) ≡ r
-      back = read-back w z e
-
-      below : {t : Bool} → Less t z a → Told S z r (not (Bool·beq t (ltZ (toZ w (ofZ w r)) (toZ w (ofZ w a)))))
-      below l = rw (back, toZ-ofZ f) (told-below (real-signed (bits w)) a z r (in-signed w f) near e l (tested r a))
-
-      above : {t : Bool} → Less t a z → Told S z r (not (Bool·beq t (ltZ (toZ w (ofZ w a)) (toZ w (ofZ w r)))))
-      above l = rw (back, toZ-ofZ f) (told-above (real-signed (bits w)) a z r (in-signed w f) near e l (tested a r))
-
     module _ {b : ℤ} (g : SFits w b) where
       pub sum-told : r ≡ wrap S (toZ w (ofZ w a) +ℤ toZ w (ofZ w b)) → Told S (a +ℤ b) r (neither (negative (toZ w (ofZ w a))) (negative (toZ w (ofZ w b))) (negative (toZ w (ofZ w r))))
       sum-told e =
           let q : r ≡ wrap S (a +ℤ b) = rw (toZ-ofZ f, toZ-ofZ g) at e in
-          rw (read-back w (a +ℤ b) q, toZ-ofZ f, toZ-ofZ g) (sum-told-by-signs (real-signed (bits w)) (omega (arith, halves w)) a b r (in-signed w f) (in-signed w g) q)
+          rw (read-back w (a +ℤ b) q, toZ-ofZ f, toZ-ofZ g)
+          (sum-told-by-signs (real-signed (bits w)) (omega (arith, halves w)) a r (in-signed w f) b (in-signed w g) q)
 
       pub difference-told : r ≡ wrap S (toZ w (ofZ w a) -ℤ toZ w (ofZ w b)) → Told S (a -ℤ b) r (both-other (negative (toZ w (ofZ w a))) (negative (toZ w (ofZ w b))) (negative (toZ w (ofZ w r))))
       difference-told e =
           let q : r ≡ wrap S (a -ℤ b) = rw (toZ-ofZ f, toZ-ofZ g) at e in
-          rw (read-back w (a -ℤ b) q, toZ-ofZ f, toZ-ofZ g) (difference-told-by-signs (real-signed (bits w)) (omega (arith, halves w)) a b r (in-signed w f) (in-signed w g) q)
+          rw (read-back w (a -ℤ b) q, toZ-ofZ f, toZ-ofZ g)
+          (difference-told-by-signs (real-signed (bits w)) (omega (arith, halves w)) a r (in-signed w f) b (in-signed w g) q)
 
     module _ {b : ℕ} (h : b < 2 ^ bits w) where
-      pub rise-told : r ≡ wrap S (toZ w (ofZ w a) +ℤ pos b) → Told S (a +ℤ pos b) r (ltZ (toZ w (ofZ w r)) (toZ w (ofZ w a)))
-      rise-told e =
+      pub unsigned-sum-told : r ≡ wrap S (toZ w (ofZ w a) +ℤ pos b) → Told S (a +ℤ pos b) r (ltZ (toZ w (ofZ w r)) (toZ w (ofZ w a)))
+      unsigned-sum-told e =
+          let q : r ≡ wrap S (a +ℤ pos b) = rw (toZ-ofZ f) at e in
           let s = sum a (pos b) in
-          one-test
-          (below (a +ℤ pos b) (near-sum S refl a (pos b) h (pow-pos (bits w))) (rw (toZ-ofZ f) at e) (not-less (a +ℤ pos b) a (omega arith)))
+          rw (read-back w (a +ℤ pos b) q, toZ-ofZ f)
+          (one-test (not-lt (a +ℤ pos b) a (omega arith))
+          (told-below (real-signed (bits w)) a (a +ℤ pos b) r q (near-sum refl (in-signed w f) (pos b) h (pow-pos (bits w)))))
 
-      pub fall-told : r ≡ wrap S (toZ w (ofZ w a) -ℤ pos b) → Told S (a -ℤ pos b) r (ltZ (toZ w (ofZ w a)) (toZ w (ofZ w r)))
-      fall-told e =
+      pub unsigned-difference-told : r ≡ wrap S (toZ w (ofZ w a) -ℤ pos b) → Told S (a -ℤ pos b) r (ltZ (toZ w (ofZ w a)) (toZ w (ofZ w r)))
+      unsigned-difference-told e =
+          let q : r ≡ wrap S (a -ℤ pos b) = rw (toZ-ofZ f) at e in
+          let i = in-signed w f in
           let s = difference a (pos b) in
-          one-test
-          (above (a -ℤ pos b) (near-difference S refl a (pos b) h (pow-pos (bits w))) (rw (toZ-ofZ f) at e) (not-less a (a -ℤ pos b) (omega arith)))
+          let n = sum a (pos 1) in
+          rw (read-back w (a -ℤ pos b) q, toZ-ofZ f)
+          (one-test (not-lt a (a -ℤ pos b) (omega arith))
+          (told-above (real-signed (bits w)) a (a -ℤ pos b) r q
+          (record { first = omega (arith, i .above); last = omega (arith, i .below); from-below = omega arith; from-above = omega (arith, pow-pos (bits w)) })))
 
   -- ---- and so it answers
   module _ {z r : ℤ} {d : Bool} (told : Told S z r d) where

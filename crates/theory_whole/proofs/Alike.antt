@@ -56,8 +56,8 @@ module _ {m : ℕ} (h : 0 < m) where
             (equal e then added (added (p .halves) (q .halves)) (itself (down (x +ℤ y) + up (x′ +ℤ y′))) then equal e′);
       }
 
-  pub alike-minus : {x x′ y y′ : ℤ} → Alike m x x′ → Alike m y y′ → Alike m (x -ℤ y) (x′ -ℤ y′)
-  alike-minus p q = alike-add p (alike-neg q)
+  pub alike-sub : {x x′ y y′ : ℤ} → Alike m x x′ → Alike m y y′ → Alike m (x -ℤ y) (x′ -ℤ y′)
+  alike-sub p q = alike-add p (alike-neg q)
 
   -- u = up x + down x′ and v = up x′ + down x are congruent, so u d + v c and u c + v d are
   alike-times : (y : ℤ) {x x′ : ℤ} → Alike m x x′ → Alike m (x *ℤ y) (x′ *ℤ y)

@@ -15,7 +15,7 @@ use Rattle.theory_answers.specs.Answer.{Answers}
 use Rattle.theory_whole.specs.Fit.{wrap, refuse}
 use Rattle.theory_whole.proofs.Halves.{up, down, by-halves, same-halves, sum, difference}
 use Rattle.theory_whole.proofs.Cases.{by-test}
-use Rattle.theory_whole.proofs.Alike.{Alike, alike-itself, alike-same, alike-then, alike-minus}
+use Rattle.theory_whole.proofs.Alike.{Alike, alike-itself, alike-same, alike-then, alike-sub}
 use Rattle.theory_whole.proofs.Fits.{In, Out, real-unsigned, real-signed, in-or-out}
 use Rattle.theory_whole.proofs.Wrap.{one-of-kind, wrap-in, wrap-alike, wrap-same}
 use Rattle.theory_whole.proofs.Refuse.{accepts, refuses}
@@ -54,7 +54,7 @@ module _ (w : ℕ) (a b p : ℤ) (i : In (signed w) a) (some : 0 < natAbs a) (e 
       let r = remZ p a in
       let whole : p ≡ a *ℤ b +ℤ r = t .0 ∙ ap (λ (x : ℤ). x *ℤ a +ℤ r) q ∙ ap (λ (x : ℤ). x +ℤ r) (*ℤ-comm b a) in
       let alike : Alike (2 ^ w) (a *ℤ b +ℤ r) (a *ℤ b) = alike-then (pow-pos w) (alike-same (sym whole ∙ e)) (wrap-alike (real-signed w) (a *ℤ b)) in
-      let left : Alike (2 ^ w) (a *ℤ b +ℤ r -ℤ a *ℤ b) (a *ℤ b -ℤ a *ℤ b) = alike-minus (pow-pos w) alike (alike-itself (a *ℤ b)) in
+      let left : Alike (2 ^ w) (a *ℤ b +ℤ r -ℤ a *ℤ b) (a *ℤ b -ℤ a *ℤ b) = alike-sub (pow-pos w) alike (alike-itself (a *ℤ b)) in
       let s = sum (a *ℤ b) r in
       let d = difference (a *ℤ b +ℤ r) (a *ℤ b) in
       let n = difference (a *ℤ b) (a *ℤ b) in

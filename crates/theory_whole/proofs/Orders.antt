@@ -28,6 +28,12 @@ is-equal x y e = rw e (itself y)
 pub not-equal : (x y : ℤ) → (up x + down y ≡ up y + down x → ⊥) → eqZ x y ≡ false
 not-equal x y n = not-so (λ e. n (same-halves (equal-yes x y e)))
 
+not-less-is : (x y : ℤ) → not (ltZ y x) ≡ leZ x y
+not-less-is x y =
+    by-test (ltZ y x)
+    (λ e. let l = lt-yes y x e in rw (e, not-le x y (omega arith)))
+    (λ e. let l = lt-no y x e in rw (e, is-le x y (omega arith)))
+
 module _ (x y : ℤ) where
   pub order-less : ltZ x y ≡ true → order x y ≡ Less
   unfolding order
@@ -41,59 +47,36 @@ module _ (x y : ℤ) where
   unfolding order
   order-equal e = rw (not-lt x y (rw e (omega arith)), not-lt y x (rw e (omega arith)))
 
-  -- one of the three, with what it tells
-  pub data Ordered : Ordering → Type 0 where
-    less : ltZ x y ≡ true → ltZ y x ≡ false → eqZ x y ≡ false → Ordered Less
-    equal : ltZ x y ≡ false → ltZ y x ≡ false → eqZ x y ≡ true → Ordered Equal
-    greater : ltZ x y ≡ false → ltZ y x ≡ true → eqZ x y ≡ false → Ordered Greater
+  -- what the three tests of an answer are
+  pub record Ordered (o : Ordering) : Type 0 where
+    pub less : isLess o ≡ ltZ x y
+    pub equal : isEqual o ≡ eqZ x y
+    pub greater : isGreater o ≡ ltZ y x
 
   pub ordered : Ordered (order x y)
   ordered =
       by-test (ltZ x y)
       (λ a. let l = lt-yes x y a in
-      rw (order-less a) (less a (not-lt y x (omega arith)) (not-equal x y (λ e. omega arith))))
+      rw (order-less a) (record { less = sym a; equal = sym (not-equal x y (λ e. omega arith)); greater = sym (not-lt y x (omega arith)) }))
       (λ a. by-test (ltZ y x)
       (λ b. let l = lt-yes y x b in
-      rw (order-greater b) (greater a b (not-equal x y (λ e. omega arith))))
+      rw (order-greater b) (record { less = sym a; equal = sym (not-equal x y (λ e. omega arith)); greater = sym b }))
       (λ b. let l = lt-no x y a in
       let m = lt-no y x b in
       let e : x ≡ y = by-halves x y (omega arith) in
-      rw (order-equal e) (equal a b (is-equal x y e))))
+      rw (order-equal e) (record { less = sym a; equal = sym (is-equal x y e); greater = sym b })))
 
   pub equal-is : isEqual (order x y) ≡ eqZ x y
-  equal-is = to (order x y) ordered
-    where
-      to : (o : Ordering) → Ordered o → isEqual o ≡ eqZ x y
-      to Less (less a b e) = sym e
-      to Equal (equal a b e) = sym e
-      to Greater (greater a b e) = sym e
+  equal-is = ordered .equal
 
   pub less-is : isLess (order x y) ≡ ltZ x y
-  less-is = to (order x y) ordered
-    where
-      to : (o : Ordering) → Ordered o → isLess o ≡ ltZ x y
-      to Less (less a b e) = sym a
-      to Equal (equal a b e) = sym a
-      to Greater (greater a b e) = sym a
+  less-is = ordered .less
 
   pub greater-is : isGreater (order x y) ≡ ltZ y x
-  greater-is = to (order x y) ordered
-    where
-      to : (o : Ordering) → Ordered o → isGreater o ≡ ltZ y x
-      to Less (less a b e) = sym b
-      to Equal (equal a b e) = sym b
-      to Greater (greater a b e) = sym b
+  greater-is = ordered .greater
 
   pub at-most-is : not (isGreater (order x y)) ≡ leZ x y
-  at-most-is =
-      ap not greater-is
-      ∙ by-test (ltZ y x)
-      (λ e. let l = lt-yes y x e in rw (e, not-le x y (omega arith)))
-      (λ e. let l = lt-no y x e in rw (e, is-le x y (omega arith)))
+  at-most-is = ap not greater-is ∙ not-less-is x y
 
   pub at-least-is : not (isLess (order x y)) ≡ leZ y x
-  at-least-is =
-      ap not less-is
-      ∙ by-test (ltZ x y)
-      (λ e. let l = lt-yes x y e in rw (e, not-le y x (omega arith)))
-      (λ e. let l = lt-no x y e in rw (e, is-le y x (omega arith)))
+  at-least-is = ap not less-is ∙ not-less-is y x

@@ -11,98 +11,67 @@ use Rattle.theory_whole.specs.Kind.{Kind}
 use Rattle.theory_answers.specs.Answer.{Answers}
 use Rattle.theory_whole.specs.Fit.{fits, wrap, refuse}
 use Rattle.theory_whole.proofs.Cases.{by-test, never, so, not-so}
-use Rattle.theory_whole.proofs.Halves.{up, down, same-halves, sum, difference, lt-yes, lt-no}
+use Rattle.theory_whole.proofs.Halves.{up, down, same-halves, sum, difference, lt-yes, lt-no, is-lt, not-lt}
 use Rattle.theory_whole.proofs.Fits.{Real, In, Out, under, over, in-or-out, in-fits, out-not-fits, fits-in, not-fits-out}
 use Rattle.theory_whole.proofs.Wrap.{wrap-same, wrap-over, wrap-under}
 use Rattle.theory_whole.proofs.Refuse.{accepts, refuses}
 
--- t is the outcome of the test x < y
-pub record Less (t : Bool) (x y : ℤ) : Type 0 where
-  pub yes : t ≡ true → up x + down y < up y + down x
-  pub no : t ≡ false → up y + down x ≤ up x + down y
-
-pub tested : (x y : ℤ) → Less (ltZ x y) x y
-tested x y = record { yes = lt-yes x y; no = lt-no x y }
-
-pub not-less : (x y : ℤ) → up y + down x ≤ up x + down y → Less false x y
-not-less x y h = record { yes = λ e. never e refl; no = λ e. h }
-
 -- a sum is below its first summand where the second is below 0
-pub sum-tested : (x y : ℤ) → Less (ltZ y (pos 0)) (x +ℤ y) x
-sum-tested x y =
+pub sum-below : (x y : ℤ) → ltZ (x +ℤ y) x ≡ ltZ y (pos 0)
+sum-below x y =
     let s = sum x y in
-    record { yes = λ e. let l = lt-yes y (pos 0) e in omega arith; no = λ e. let l = lt-no y (pos 0) e in omega arith }
-
-pub less-so : {t : Bool} {x y : ℤ} → Less t x y → up x + down y < up y + down x → t ≡ true
-less-so l h = so (λ e. let n = l .no e in omega arith)
-
-pub less-not : {t : Bool} {x y : ℤ} → Less t x y → up y + down x ≤ up x + down y → t ≡ false
-less-not l h = not-so (λ e. let n = l .yes e in omega arith)
+    by-test (ltZ y (pos 0))
+    (λ e. let l = lt-yes y (pos 0) e in rw e (is-lt (x +ℤ y) x (omega arith)))
+    (λ e. let l = lt-no y (pos 0) e in rw e (not-lt (x +ℤ y) x (omega arith)))
 
 -- r is z wrapped, and d that z does not fit
 pub record Told (k : Kind) (z r : ℤ) (d : Bool) : Type 0 where
   pub wraps : r ≡ wrap k z
   pub tells : d ≡ not (fits k z)
 
--- z lies less than the size away from a
-pub record Near (k : Kind) (a z : ℤ) : Type 0 where
-  pub from-below : up a + down z < up z + down a + k .size
-  pub from-above : up z + down a < up a + down z + k .size
+-- m is a number of the kind or the one after its last, and z lies at most the size below it and less than the size above it
+pub record Near (k : Kind) (m z : ℤ) : Type 0 where
+  pub first : down m ≤ k .low + up m
+  pub last : up m + k .low ≤ k .size + down m
+  pub from-below : up m + down z ≤ up z + down m + k .size
+  pub from-above : up z + down m < up m + down z + k .size
 
-module _ {k : Kind} (real : Real k) (a z r : ℤ) (i : In k a) (near : Near k a z) (e : r ≡ wrap k z) where
-  up-once : k .low + up z < down z → up r + down z ≡ up z + down r + k .size
-  up-once o =
-      let q = z +ℤ pos (k .size) in
-      let s = sum z (pos (k .size)) in
-      let m = same-halves (wrap-under real z q (record { above = omega arith; below = omega arith }) (omega arith) ∙ sym e) in
-      omega arith
+-- `side` is s of the numbers below m, and not s of the others
+module _ {k : Kind} (real : Real k) (m z r : ℤ) (near : Near k m z) (e : r ≡ wrap k z) (side : ℤ → Bool) (s : Bool)
+    (below : (x : ℤ) → up x + down m < up m + down x → side x ≡ s) (others : (x : ℤ) → up m + down x ≤ up x + down m → side x ≡ not s) where
+  told-by-side : Told k z r (not (Bool·beq (side z) (side r)))
+  told-by-side = record { wraps = e; tells = ⊎-elim inside outside (in-or-out k z) }
+    where
+      same : (t : Bool) → not (Bool·beq t t) ≡ false
+      same true = refl
+      same false = refl
 
-  down-once : k .size + down z ≤ up z + k .low → up r + down z + k .size ≡ up z + down r
-  down-once o =
-      let q = z -ℤ pos (k .size) in
-      let s = difference z (pos (k .size)) in
-      let m = same-halves (wrap-over real z q (record { above = omega arith; below = omega arith }) (omega arith) ∙ sym e) in
-      omega arith
+      other : (t : Bool) → (not (Bool·beq t (not t)) ≡ true) × (not (Bool·beq (not t) t) ≡ true)
+      other true = (refl, refl)
+      other false = (refl, refl)
 
-  module _ {t u : Bool} where
-    alike-or-not : (In k z → t ≡ u) → (Out k z → t ≡ not u) → not (Bool·beq t u) ≡ not (fits k z)
-    alike-or-not f g = ⊎-elim (λ j. rw (in-fits real z j, f j) (one u)) (λ o. rw (out-not-fits real z o, g o) (two u)) (in-or-out k z)
-      where
-        one : (u : Bool) → not (Bool·beq u u) ≡ false
-        one true = refl
-        one false = refl
+      inside : In k z → not (Bool·beq (side z) (side r)) ≡ not (fits k z)
+      inside j = rw (in-fits real z j, e ∙ sym (wrap-same real z j)) (same (side z))
 
-        two : (u : Bool) → not (Bool·beq (not u) u) ≡ true
-        two true = refl
-        two false = refl
+      outside : Out k z → not (Bool·beq (side z) (side r)) ≡ not (fits k z)
+      outside (under o) =
+          let q = sum z (pos (k .size)) in
+          let h = same-halves (wrap-under real z (z +ℤ pos (k .size)) (record { above = omega arith; below = omega arith }) (omega arith) ∙ sym e) in
+          rw (out-not-fits real z (under o), below z (omega arith), others r (omega arith)) (other s .0)
+      outside (over o) =
+          let q = difference z (pos (k .size)) in
+          let h = same-halves (wrap-over real z (z -ℤ pos (k .size)) (record { above = omega arith; below = omega arith }) (omega arith) ∙ sym e) in
+          rw (out-not-fits real z (over o), others z (omega arith), below r (omega arith)) (other s .1)
 
-    pub told-below : Less t z a → Less u r a → Told k z r (not (Bool·beq t u))
-    told-below l m = record { wraps = e; tells = alike-or-not inside outside }
-      where
-        inside : In k z → t ≡ u
-        inside j =
-            let s = same-halves (e ∙ sym (wrap-same real z j)) in
-            by-test t
-            (λ y. let p = l .yes y in y ∙ sym (less-so m (omega arith)))
-            (λ n. let p = l .no n in n ∙ sym (less-not m (omega arith)))
+module _ {k : Kind} (real : Real k) (a z r : ℤ) (e : r ≡ wrap k z) where
+  pub told-below : Near k a z → Told k z r (not (Bool·beq (ltZ z a) (ltZ r a)))
+  told-below near = told-by-side real a z r near e (λ x. ltZ x a) true (λ x. is-lt x a) (λ x. not-lt x a)
 
-        outside : Out k z → t ≡ not u
-        outside (under o) = let s = up-once o in rw (less-so l (omega arith), less-not m (omega arith))
-        outside (over o) = let s = down-once o in rw (less-not l (omega arith), less-so m (omega arith))
-
-    pub told-above : Less t a z → Less u a r → Told k z r (not (Bool·beq t u))
-    told-above l m = record { wraps = e; tells = alike-or-not inside outside }
-      where
-        inside : In k z → t ≡ u
-        inside j =
-            let s = same-halves (e ∙ sym (wrap-same real z j)) in
-            by-test t
-            (λ y. let p = l .yes y in y ∙ sym (less-so m (omega arith)))
-            (λ n. let p = l .no n in n ∙ sym (less-not m (omega arith)))
-
-        outside : Out k z → t ≡ not u
-        outside (under o) = let s = up-once o in rw (less-not l (omega arith), less-so m (omega arith))
-        outside (over o) = let s = down-once o in rw (less-so l (omega arith), less-not m (omega arith))
+  -- what is above a is not below the next number
+  pub told-above : Near k (a +ℤ pos 1) z → Told k z r (not (Bool·beq (ltZ a z) (ltZ a r)))
+  told-above near =
+      let n = sum a (pos 1) in
+      told-by-side real (a +ℤ pos 1) z r near e (λ x. ltZ a x) false (λ x h. not-lt a x (omega arith)) (λ x h. is-lt a x (omega arith))
 
 -- what a checked operation answers by such a test
 module _ {k : Kind} (real : Real k) {z r : ℤ} {d : Bool} (told : Told k z r d) where

@@ -1,28 +1,27 @@
 -- A sum or a difference is told by signs, in a kind that reaches as far below 0 as above. Where the signs say that it lies between two numbers of the kind, it fits;
 -- else its own sign is known, and it fits exactly where what it wraps to has that sign.
-use mathlib.Core.Path.{_≡_, refl, sym, _∙_}
+use mathlib.Core.Path.{_≡_, refl, sym}
 use mathlib.Core.Bool.{Bool, true, false, not, _&&_, Bool·beq}
-use mathlib.Core.Logic.{⊎-elim}
 use Prim.Native.Nat.{_+_, _≤_, _<_}
 use native.Mathlib.Omega.{arith}
 use lib.IntN.{ℤ, pos, _+ℤ_, _-ℤ_}
 use lib.Signed.{ltZ}
+use borrow.Author.Tests.{not-true, not-false}
 use Rattle.theory_whole.specs.Kind.{Kind}
-use Rattle.theory_whole.specs.Fit.{fits, wrap}
+use Rattle.theory_whole.specs.Fit.{wrap}
 use Rattle.theory_whole.proofs.Cases.{by-test}
-use Rattle.theory_whole.proofs.Halves.{up, down, sum, difference, same-halves, lt-yes, lt-no}
-use Rattle.theory_whole.proofs.Fits.{Real, In, Out, under, over, in-or-out, in-fits, out-not-fits}
-use Rattle.theory_whole.proofs.Wrap.{wrap-same, wrap-over, wrap-under}
-use Rattle.theory_whole.proofs.Overflow.{Told, tested, less-so, less-not}
+use Rattle.theory_whole.proofs.Halves.{up, down, sum, difference, lt-yes, lt-no, is-lt, not-lt}
+use Rattle.theory_whole.proofs.Fits.{Real, In, in-fits}
+use Rattle.theory_whole.proofs.Overflow.{Told, told-below}
 
 abbrev pub negative : ℤ → Bool
 negative x = ltZ x (pos 0)
 
 is-negative : (x : ℤ) → up x < down x → negative x ≡ true
-is-negative x h = less-so (tested x (pos 0)) (omega arith)
+is-negative x h = is-lt x (pos 0) (omega arith)
 
 not-negative : (x : ℤ) → down x ≤ up x → negative x ≡ false
-not-negative x h = less-not (tested x (pos 0)) (omega arith)
+not-negative x h = not-lt x (pos 0) (omega arith)
 
 -- of a sum: neither summand has the sign of what it wraps to
 abbrev pub neither : Bool → Bool → Bool → Bool
@@ -32,91 +31,70 @@ neither t u v = not (Bool·beq t v) && not (Bool·beq u v)
 abbrev pub both-other : Bool → Bool → Bool → Bool
 both-other t u v = not (Bool·beq t u) && not (Bool·beq t v)
 
-alike : (t : Bool) → not (Bool·beq t t) ≡ false
-alike true = refl
-alike false = refl
-
 module _ {k : Kind} (real : Real k) (z r : ℤ) (e : r ≡ wrap k z) where
   known-to-fit : {d : Bool} → In k z → d ≡ false → Told k z r d
   known-to-fit i f = record { wraps = e; tells = rw (in-fits real z i, f) }
 
   by-its-sign : {d : Bool} → down z ≤ up z + k .size → up z < down z + k .size → d ≡ not (Bool·beq (negative z) (negative r)) → Told k z r d
-  by-its-sign {d} l h f = record { wraps = e; tells = f ∙ ⊎-elim inside outside (in-or-out k z) }
-    where
-      inside : In k z → not (Bool·beq (negative z) (negative r)) ≡ not (fits k z)
-      inside i = rw (in-fits real z i, e ∙ sym (wrap-same real z i)) (alike (negative z))
-
-      outside : Out k z → not (Bool·beq (negative z) (negative r)) ≡ not (fits k z)
-      outside (under o) =
-          let s = sum z (pos (k .size)) in
-          let m = same-halves (wrap-under real z (z +ℤ pos (k .size)) (record { above = omega arith; below = omega arith }) (omega arith) ∙ sym e) in
-          rw (out-not-fits real z (under o), is-negative z (omega arith), not-negative r (omega arith))
-      outside (over o) =
-          let s = difference z (pos (k .size)) in
-          let p = real .zero-in in
-          let m = same-halves (wrap-over real z (z -ℤ pos (k .size)) (record { above = omega arith; below = omega arith }) (omega arith) ∙ sym e) in
-          rw (out-not-fits real z (over o), not-negative z (omega arith), is-negative r (omega arith))
+  by-its-sign l h f =
+      let p = real .zero-in in
+      rw f (told-below real (pos 0) z r e (record { first = omega arith; last = omega arith; from-below = omega arith; from-above = omega arith }))
 
 -- what the tests come to, where the signs are the same and where they are not
-sum-of-same : (t v : Bool) → neither t t v ≡ not (Bool·beq t v)
-sum-of-same true true = refl
-sum-of-same true false = refl
-sum-of-same false true = refl
-sum-of-same false false = refl
+signs-same : (t v : Bool) → neither t t v ≡ not (Bool·beq t v)
+signs-same true true = refl
+signs-same true false = refl
+signs-same false true = refl
+signs-same false false = refl
 
-sum-of-other : (t v : Bool) → neither t (not t) v ≡ false
-sum-of-other true true = refl
-sum-of-other true false = refl
-sum-of-other false true = refl
-sum-of-other false false = refl
+signs-other : (t v : Bool) → neither t (not t) v ≡ false
+signs-other true true = refl
+signs-other true false = refl
+signs-other false true = refl
+signs-other false false = refl
 
-difference-of-same : (t v : Bool) → both-other t t v ≡ false
-difference-of-same true v = refl
-difference-of-same false v = refl
+-- a difference is a sum with the opposite number, whose sign is the other
+opposite : (t u v : Bool) → both-other t u v ≡ neither t (not u) v
+opposite true true v = sym (signs-other true v)
+opposite true false v = sym (signs-same true v)
+opposite false true v = sym (signs-same false v)
+opposite false false v = sym (signs-other false v)
 
-difference-of-other : (t v : Bool) → both-other t (not t) v ≡ not (Bool·beq t v)
-difference-of-other true v = refl
-difference-of-other false v = refl
-
-module _ {k : Kind} (real : Real k) (even : k .size ≡ k .low + k .low) (a b r : ℤ) (i : In k a) (j : In k b) where
-  pub sum-told-by-signs : r ≡ wrap k (a +ℤ b) → Told k (a +ℤ b) r (neither (negative a) (negative b) (negative r))
-  sum-told-by-signs e =
-      let s = sum a b in
+module _ {k : Kind} (real : Real k) (even : k .size ≡ k .low + k .low) (a r : ℤ) (i : In k a) where
+  -- z lies up to half the size away from a, and u says on which side
+  told-by-signs : (z : ℤ) → r ≡ wrap k z → (u : Bool) → (u ≡ true → up z + down a ≤ up a + down z) → (u ≡ false → up a + down z ≤ up z + down a)
+      → up z + down a ≤ up a + down z + k .low → up a + down z ≤ up z + down a + k .low → Told k z r (neither (negative a) u (negative r))
+  told-by-signs z e u d f l h =
       by-test (negative a)
       (λ x. let p = lt-yes a (pos 0) x in
-      by-test (negative b)
-      (λ y. let q = lt-yes b (pos 0) y in
-      by-its-sign real (a +ℤ b) r e (omega (arith, i .above, j .above, j .below)) (omega (arith, i .below, j .above, j .below))
-      (rw (x, y, is-negative (a +ℤ b) (omega arith)) (sum-of-same true (negative r))))
-      (λ y. let q = lt-no b (pos 0) y in
-      known-to-fit real (a +ℤ b) r e (record { above = omega (arith, i .above, j .above, j .below); below = omega (arith, i .below, j .above, j .below) })
-      (rw (x, y) (sum-of-other true (negative r)))))
+      by-test u
+      (λ y. let q = d y in
+      by-its-sign real z r e (omega (arith, i .above)) (omega arith) (rw (x, y, is-negative z (omega arith)) (signs-same true (negative r))))
+      (λ y. let q = f y in
+      known-to-fit real z r e (record { above = omega (arith, i .above); below = omega arith }) (rw (x, y) (signs-other true (negative r)))))
       (λ x. let p = lt-no a (pos 0) x in
-      by-test (negative b)
-      (λ y. let q = lt-yes b (pos 0) y in
-      known-to-fit real (a +ℤ b) r e (record { above = omega (arith, i .above, j .above, j .below); below = omega (arith, i .below, j .above, j .below) })
-      (rw (x, y) (sum-of-other false (negative r))))
-      (λ y. let q = lt-no b (pos 0) y in
-      by-its-sign real (a +ℤ b) r e (omega (arith, i .above, j .above, j .below)) (omega (arith, i .below, j .above, j .below))
-      (rw (x, y, not-negative (a +ℤ b) (omega arith)) (sum-of-same false (negative r)))))
+      by-test u
+      (λ y. let q = d y in
+      known-to-fit real z r e (record { above = omega arith; below = omega (arith, i .below) }) (rw (x, y) (signs-other false (negative r))))
+      (λ y. let q = f y in
+      by-its-sign real z r e (omega arith) (omega (arith, i .below)) (rw (x, y, not-negative z (omega arith)) (signs-same false (negative r)))))
 
-  pub difference-told-by-signs : r ≡ wrap k (a -ℤ b) → Told k (a -ℤ b) r (both-other (negative a) (negative b) (negative r))
-  difference-told-by-signs e =
-      let s = difference a b in
-      by-test (negative a)
-      (λ x. let p = lt-yes a (pos 0) x in
-      by-test (negative b)
-      (λ y. let q = lt-yes b (pos 0) y in
-      known-to-fit real (a -ℤ b) r e (record { above = omega (arith, i .above, j .above, j .below); below = omega (arith, i .below, j .above, j .below) })
-      (rw (x, y) (difference-of-same true (negative r))))
-      (λ y. let q = lt-no b (pos 0) y in
-      by-its-sign real (a -ℤ b) r e (omega (arith, i .above, j .above, j .below)) (omega (arith, i .below, j .above, j .below))
-      (rw (x, y, is-negative (a -ℤ b) (omega arith)) (difference-of-other true (negative r)))))
-      (λ x. let p = lt-no a (pos 0) x in
-      by-test (negative b)
-      (λ y. let q = lt-yes b (pos 0) y in
-      by-its-sign real (a -ℤ b) r e (omega (arith, i .above, j .above, j .below)) (omega (arith, i .below, j .above, j .below))
-      (rw (x, y, not-negative (a -ℤ b) (omega arith)) (difference-of-other false (negative r))))
-      (λ y. let q = lt-no b (pos 0) y in
-      known-to-fit real (a -ℤ b) r e (record { above = omega (arith, i .above, j .above, j .below); below = omega (arith, i .below, j .above, j .below) })
-      (rw (x, y) (difference-of-same false (negative r)))))
+  module _ (b : ℤ) (j : In k b) where
+    pub sum-told-by-signs : r ≡ wrap k (a +ℤ b) → Told k (a +ℤ b) r (neither (negative a) (negative b) (negative r))
+    sum-told-by-signs e =
+        let s = sum a b in
+        told-by-signs (a +ℤ b) e (negative b)
+        (λ y. omega (arith, lt-yes b (pos 0) y))
+        (λ y. omega (arith, lt-no b (pos 0) y))
+        (omega (arith, j .below))
+        (omega (arith, j .above))
+
+    pub difference-told-by-signs : r ≡ wrap k (a -ℤ b) → Told k (a -ℤ b) r (both-other (negative a) (negative b) (negative r))
+    difference-told-by-signs e =
+        let s = difference a b in
+        rw (opposite (negative a) (negative b) (negative r))
+        (told-by-signs (a -ℤ b) e (not (negative b))
+        (λ y. omega (arith, lt-no b (pos 0) (not-true (negative b) y)))
+        (λ y. omega (arith, lt-yes b (pos 0) (not-false (negative b) y)))
+        (omega (arith, j .above))
+        (omega (arith, j .below)))

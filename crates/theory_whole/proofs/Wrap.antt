@@ -9,7 +9,7 @@ use Rattle.theory_whole.specs.Division.{_modulo_}
 use Rattle.theory_whole.specs.Fit.{fits, wrap}
 use Rattle.theory_whole.proofs.Halves.{up, down, by-halves, sum, difference}
 use Rattle.theory_whole.proofs.Congruence.{equal, itself, _then_, added, cancel, alone}
-use Rattle.theory_whole.proofs.Alike.{Alike, alike-itself, alike-same, alike-turned, alike-once, alike-then, alike-minus, modulo-below, modulo-alike}
+use Rattle.theory_whole.proofs.Alike.{Alike, alike-itself, alike-same, alike-turned, alike-once, alike-then, alike-sub, modulo-below, modulo-alike}
 use Rattle.theory_whole.proofs.Fits.{Real, In, in-fits}
 
 module _ {k : Kind} (real : Real k) where
@@ -48,7 +48,7 @@ module _ {k : Kind} (real : Real k) where
         let s = sum z (pos (k .low)) in
         let d = difference (z +ℤ pos (k .low)) (pos (k .low)) in
         let e : z +ℤ pos (k .low) -ℤ pos (k .low) ≡ z = by-halves (z +ℤ pos (k .low) -ℤ pos (k .low)) z (omega arith) in
-        alike-then some (alike-minus some (modulo-alike some (z +ℤ pos (k .low))) (alike-itself (pos (k .low)))) (alike-same e)
+        alike-then some (alike-sub some (modulo-alike some (z +ℤ pos (k .low))) (alike-itself (pos (k .low)))) (alike-same e)
 
   pub wrap-is : (z r : ℤ) → In k r → Alike (k .size) r z → r ≡ wrap k z
   wrap-is z r i a = one-of-kind r (wrap k z) i (wrap-in z) (alike-then some a (alike-turned (wrap-alike z)))

@@ -2,7 +2,7 @@
 use mathlib.Core.Path.{_≡_, refl, sym, _∙_}
 use mathlib.Core.Bool.{Bool, true, false}
 use mathlib.Core.List.{List, [], _∷_}
-use Prim.Native.Nat.{ℕ, _<_}
+use Prim.Native.Nat.{ℕ}
 use native.Mathlib.Decide.{decLt, ℕ-discrete}
 use native.Mathlib.Omega.{arith}
 use lib.ListN.{length}
@@ -18,33 +18,32 @@ got-clause-pinned true false x x′ s i p q = absurd (q (p .0))
 got-clause-pinned false true x x′ s i p q = absurd (p (q .0))
 got-clause-pinned false false x x′ s i p q = (refl, λ e. never e refl)
 
+-- None where P, and elsewhere Some with one answer
+none-or-same : {P Same : Type 0} {ok ok′ : Bool} → Dec P → (P → ok ≡ false) → (P → ok′ ≡ false) → ((P → ⊥) → (ok ≡ true) × (ok′ ≡ true) × Same)
+    → (ok ≡ ok′) × (ok ≡ true → Same)
+none-or-same (yes e) p q some = (p e ∙ sym (q e), λ o. never o (p e))
+none-or-same (no n) p q some = let s = some n in (s .0 ∙ sym (s .1), λ o. s .2)
+
 -- the first and the last
 pub ends-clause-pinned : (ok ok′ : Bool) (x x′ : ℕ) (s : List ℕ) (y : ℕ) → SomeUnlessEmpty ok x s y → SomeUnlessEmpty ok′ x′ s y → (ok ≡ ok′) × (ok ≡ true → x ≡ x′)
-ends-clause-pinned ok ok′ x x′ s y p q = go (ℕ-discrete (length s) 0)
-  where
-    go : Dec (length s ≡ 0) → (ok ≡ ok′) × (ok ≡ true → x ≡ x′)
-    go (yes e) = (p .none e ∙ sym (q .none e), λ o. never o (p .none e))
-    go (no n) = (p .present n .0 ∙ sym (q .present n .0), λ o. p .present n .1 ∙ sym (q .present n .1))
+ends-clause-pinned ok ok′ x x′ s y p q =
+    none-or-same (ℕ-discrete (length s) 0) (p .none) (q .none) (λ n. (p .present n .0, q .present n .0, p .present n .1 ∙ sym (q .present n .1)))
 
 pub split-at-clause-pinned : (ok ok′ : Bool) (a b a′ b′ s : List ℕ) (m : ℕ) → SplitAt ok a b s m → SplitAt ok′ a′ b′ s m → (ok ≡ ok′) × (ok ≡ true → (a ≡ a′) × (b ≡ b′))
-split-at-clause-pinned ok ok′ a b a′ b′ s m p q = go (decLt (length s) m)
-  where
-    go : Dec (length s < m) → (ok ≡ ok′) × (ok ≡ true → (a ≡ a′) × (b ≡ b′))
-    go (yes l) = (p .outside l ∙ sym (q .outside l), λ o. never o (p .outside l))
-    go (no l) =
-        let i = p .inside (omega arith) in
-        let j = q .inside (omega arith) in
-        (i .0 ∙ sym (j .0), λ o. (subrange-pinned (i .1) (j .1), subrange-pinned (i .2) (j .2)))
+split-at-clause-pinned ok ok′ a b a′ b′ s m p q =
+    none-or-same (decLt (length s) m) (p .outside) (q .outside)
+    (λ n.
+    let i = p .inside (omega arith) in
+    let j = q .inside (omega arith) in
+    (i .0, j .0, (subrange-pinned (i .1) (j .1), subrange-pinned (i .2) (j .2))))
 
 pub split-first-clause-pinned : (ok ok′ : Bool) (x x′ : ℕ) (b b′ s : List ℕ) → SplitFirst ok x b s → SplitFirst ok′ x′ b′ s → (ok ≡ ok′) × (ok ≡ true → (x ≡ x′) × (b ≡ b′))
-split-first-clause-pinned ok ok′ x x′ b b′ s p q = go (ℕ-discrete (length s) 0)
-  where
-    go : Dec (length s ≡ 0) → (ok ≡ ok′) × (ok ≡ true → (x ≡ x′) × (b ≡ b′))
-    go (yes e) = (p .none e ∙ sym (q .none e), λ o. never o (p .none e))
-    go (no n) =
-        let i = p .present (omega arith) in
-        let j = q .present (omega arith) in
-        (i .0 ∙ sym (j .0), λ o. (i .1 ∙ sym (j .1), subrange-pinned (i .2) (j .2)))
+split-first-clause-pinned ok ok′ x x′ b b′ s p q =
+    none-or-same (ℕ-discrete (length s) 0) (p .none) (q .none)
+    (λ n.
+    let i = p .present (omega arith) in
+    let j = q .present (omega arith) in
+    (i .0, j .0, (i .1 ∙ sym (j .1), subrange-pinned (i .2) (j .2))))
 
 -- ---- open
 

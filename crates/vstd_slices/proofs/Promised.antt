@@ -18,10 +18,7 @@ use Rattle.vstd_slices.proofs.Tests.{starts-with-says, ends-with-says, 
 use Rattle.vstd_slices.proofs.Written.{written-replaces, copied-within}
 
 module _ {s : List ℕ} {f t : ℕ} where
-  -- there is an element at place i, and there is one at all
-  at-place : {i : ℕ} → (Within f t s × (i < t - f) → Within f t s × (i < length (part f t s))) × (Within f t s × (i < length (part f t s)) → Within f t s × (i < t - f))
-  at-place = ((λ p. (p .0, omega (arith, length-part (p .0), p .1))), (λ p. (p .0, omega (arith, length-part (p .0), p .1))))
-
+  -- there is an element
   some-element : (Within f t s × (f < t) → Within f t s × (0 < length (part f t s))) × (Within f t s × (0 < length (part f t s)) → Within f t s × (f < t))
   some-element = ((λ p. (p .0, omega (arith, length-part (p .0), p .1))), (λ p. (p .0, omega (arith, length-part (p .0), p .1))))
 

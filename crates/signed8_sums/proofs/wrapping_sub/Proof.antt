@@ -2,7 +2,7 @@ use borrow.Author.Needs.{needs}
 use mir.Syntax.{w8}
 use lib.Pow.{pow-pos}
 use lib.IntN.{_-ℤ_}
-use Rattle.theory_whole.proofs.Alike.{alike-minus}
+use Rattle.theory_whole.proofs.Alike.{alike-sub}
 use Rattle.theory_machine.proofs.Sums.{by-bits}
 use Rattle.signed8_sums.proofs.wrapping_sub.Statement.{statement}
 use Rattle.signed8_sums.proofs.wrapping_sub.Tie as tie
@@ -10,7 +10,7 @@ use Rattle.signed8_sums.proofs.wrapping_sub.Tie as tie
 returns : tie.Need-returns
 returns c =
     let s = c .before .before .before .before in
-    by-bits w8 _-ℤ_ (alike-minus (pow-pos 8)) (s .fits .a) (s .fits .b) (c .before .before .before .wrapped .ensures)
+    by-bits w8 _-ℤ_ (alike-sub (pow-pos 8)) (s .fits .a) (s .fits .b) (c .before .before .before .wrapped .ensures)
     (c .before .before .wrapped2 .ensures) (c .before .wrapping-sub .ensures) (c .wrapped3 .ensures)
 
 pub wrapping-sub-spec : {M : Type 1} → statement M

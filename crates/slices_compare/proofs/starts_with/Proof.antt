@@ -1,7 +1,7 @@
 use borrow.Author.Needs.{needs}
 use native.Mathlib.Omega.{arith}
 use Rattle.theory_lists.specs.Part.{Within}
-use Rattle.theory_lists.proofs.Tests.{longer-no-front, says-front}
+use Rattle.theory_lists.proofs.Tests.{front, longer-is-not-there, says-there}
 use Rattle.slices_compare.proofs.starts_with.Statement.{statement}
 use Rattle.slices_compare.proofs.starts_with.Tie as tie
 
@@ -9,13 +9,13 @@ returns-3 : tie.Need-returns-3
 returns-3 c =
     let a = c .before .before .before .before .before .args in
     let w : Within (a .from) (a .to) (a .s .now) = search needs in
-    record { asked = w; given = longer-no-front (a .from) (a .to) (a .s .now) (a .other .now) w (omega arith) }
+    record { asked = w; given = longer-is-not-there (front (a .from) (a .to) (a .s .now) (a .other .now) w) (omega arith) }
 
 returns-4 : tie.Need-returns-4
 returns-4 c =
     let a = c .before .before .before .before .before .before .before .args in
     let w : Within (a .from) (a .to) (a .s .now) = search needs in
-    record { asked = w; given = says-front (a .from) (a .to) (a .s .now) (a .other .now) w (c .same .result) (omega arith) (c .same .ensures) }
+    record { asked = w; given = says-there (front (a .from) (a .to) (a .s .now) (a .other .now) w) (c .same .result) (omega arith) (c .same .ensures) }
 
 pub starts-with-spec : {M : Type 1} → statement M
 starts-with-spec =

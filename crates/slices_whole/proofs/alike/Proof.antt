@@ -1,11 +1,12 @@
 use borrow.Author.Needs.{needs}
 use native.Mathlib.Omega.{arith}
 use mathlib.Core.Path.{_≡_}
+use mathlib.Core.Bool.{true}
 use Prim.Native.Nat.{_-_, _≤_}
 use lib.ListN.{length}
 use Rattle.theory_answers.specs.Says.{Says}
 use Rattle.theory_lists.specs.Search.{All, alikeAt}
-use Rattle.theory_lists.proofs.Search.{says-all-next, says-same}
+use Rattle.theory_lists.proofs.Search.{each-start, says-all-next, says-same}
 use Rattle.slices_whole.proofs.alike.Statement.{statement}
 use Rattle.slices_whole.proofs.alike.Tie as tie
 
@@ -16,7 +17,7 @@ abbrev μ-loop : tie.MeasureT-loop
 μ-loop a b same₀ i₀ same i = length a - i
 
 loop-holds : tie.Need-loop-holds Inv-loop μ-loop
-loop-holds c = (omega arith, λ k h l. absurd (omega arith))
+loop-holds c = (omega arith, each-start true _ 0)
 
 loop-again : tie.Need-loop-again Inv-loop μ-loop
 loop-again c =

@@ -8,7 +8,7 @@ use lib.ListN.{length}
 use Rattle.theory_lists.specs.Part.{Within}
 use Rattle.theory_lists.specs.Search.{All, alikeAt}
 use Rattle.theory_answers.proofs.Says.{says-true, says-false}
-use Rattle.theory_lists.proofs.Search.{each-join, says-all-rest, says-same, says-same-part, same-alike}
+use Rattle.theory_lists.proofs.Search.{each-start, each-join, says-all-rest, says-same, says-same-part, same-alike}
 use Rattle.slices_whole.proofs.alike_by.Statement.{statement}
 use Rattle.slices_whole.proofs.alike_by.Tie as tie
 
@@ -28,7 +28,7 @@ returns c =
     λ e. says-false block (not-true (c .before .alike .result) (c .if1 .taken)) (same-alike (a .a .now) (a .b .now) (l .i) (l .i + a .size) e)
 
 loop-holds : tie.Need-loop-holds Inv-loop μ-loop
-loop-holds c = (omega arith, λ k h l. absurd (omega arith))
+loop-holds c = (omega arith, each-start true _ 0)
 
 loop-again : tie.Need-loop-again Inv-loop μ-loop
 loop-again c =

@@ -5,7 +5,7 @@ use mathlib.Core.Bool.{false}
 use lib.ListN.{length}
 use Rattle.theory_lists.specs.Search.{None, holdsAt, is}
 use Rattle.theory_answers.proofs.Says.{says-true, says-false}
-use Rattle.theory_lists.proofs.Search.{each-join, any-more, not-any-is-none, says-any-part, says-any-rest}
+use Rattle.theory_lists.proofs.Search.{each-start, each-join, any-more, not-any-is-none, says-any-part, says-any-rest}
 use Rattle.theory_lists.specs.Part.{Within}
 use Rattle.slices_whole.proofs.stands_by.Statement.{statement}
 use Rattle.slices_whole.proofs.stands_by.Tie as tie
@@ -17,7 +17,7 @@ abbrev μ-loop : tie.MeasureT-loop
 μ-loop s v size last i₀ i = length s - i
 
 loop-holds : tie.Need-loop-holds Inv-loop μ-loop
-loop-holds c = (omega arith, λ k h l. absurd (omega arith))
+loop-holds c = (omega arith, each-start false _ 0)
 
 returns : tie.Need-returns Inv-loop μ-loop
 returns c =

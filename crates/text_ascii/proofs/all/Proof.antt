@@ -2,10 +2,11 @@ use borrow.Author.Needs.{needs}
 use native.Mathlib.Omega.{arith}
 use Prim.Native.Nat.{_-_, _≤_}
 use mathlib.Core.Path.{_≡_}
+use mathlib.Core.Bool.{true}
 use lib.ListN.{length}
 use Rattle.theory_answers.specs.Says.{Says}
 use Rattle.theory_lists.specs.Search.{All, holdsAt, below}
-use Rattle.theory_lists.proofs.Search.{says-all-next}
+use Rattle.theory_lists.proofs.Search.{each-start, says-all-next}
 use Rattle.theory_lists.proofs.Below.{says-below}
 use Rattle.text_ascii.proofs.all.Statement.{statement}
 use Rattle.text_ascii.proofs.all.Tie as tie
@@ -17,7 +18,7 @@ abbrev μ-loop : tie.MeasureT-loop
 μ-loop s all₀ i₀ all i = length s - i
 
 loop-holds : tie.Need-loop-holds Inv-loop μ-loop
-loop-holds c = (omega arith, λ k h l. absurd (omega arith))
+loop-holds c = (omega arith, each-start true _ 0)
 
 loop-again : tie.Need-loop-again Inv-loop μ-loop
 loop-again c =

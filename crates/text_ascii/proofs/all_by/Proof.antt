@@ -7,7 +7,7 @@ use lib.ListN.{length}
 use Rattle.theory_answers.proofs.Says.{says-true, says-false}
 use Rattle.theory_lists.specs.Part.{Within}
 use Rattle.theory_lists.specs.Search.{All, holdsAt, below}
-use Rattle.theory_lists.proofs.Search.{each-join, says-all-rest}
+use Rattle.theory_lists.proofs.Search.{each-start, each-join, says-all-rest}
 use Rattle.theory_lists.proofs.Below.{part-below, says-below, says-part-below}
 use Rattle.text_ascii.proofs.all_by.Statement.{statement}
 use Rattle.text_ascii.proofs.all_by.Tie as tie
@@ -19,7 +19,7 @@ abbrev μ-loop : tie.MeasureT-loop
 μ-loop s size last i₀ i = length s - i
 
 loop-holds : tie.Need-loop-holds Inv-loop μ-loop
-loop-holds c = (omega arith, λ k h l. absurd (omega arith))
+loop-holds c = (omega arith, each-start true _ 0)
 
 returns : tie.Need-returns Inv-loop μ-loop
 returns c =

@@ -5,7 +5,7 @@ use lib.ListN.{length, getD}
 use borrow.Author.Tests.{lt-ltb}
 use Rattle.theory_lists.specs.Part.{Within}
 use Rattle.theory_lists.specs.Search.{All, holdsAt, below}
-use Rattle.theory_lists.proofs.Search.{each-join, each-one}
+use Rattle.theory_lists.proofs.Search.{each-start, each-join, each-one}
 use Rattle.theory_lists.proofs.Below.{below-is-all, all-is-below}
 use native.Mathlib.Omega.{arith}
 use Rattle.text_ascii.proofs.ascii_from.Statement.{statement}
@@ -18,13 +18,13 @@ abbrev μ-loop : tie.MeasureT-loop
 μ-loop s from i₀ i = length s - i
 
 abbrev Inv-loop2 : tie.InvT-loop2
-Inv-loop2 s from i₀ i = ((from ≤ i) × (from ≤ length s → i ≤ length s)) × All (holdsAt (below 0x80) s) from i
+Inv-loop2 s from i₀ i = Inv-loop s from i₀ i
 
 abbrev μ-loop2 : tie.MeasureT-loop2
-μ-loop2 s from i₀ i = length s - i
+μ-loop2 s from i₀ i = μ-loop s from i₀ i
 
 loop-holds : tie.Need-loop-holds Inv-loop μ-loop Inv-loop2 μ-loop2
-loop-holds c = (search needs, λ k h l. absurd (omega arith))
+loop-holds c = (search needs, each-start true _ _)
 
 add-i : tie.Need-add-i Inv-loop μ-loop Inv-loop2 μ-loop2
 add-i c = let b = c .before .ascii-block .ensures (c .if1 .taken) in search needs
