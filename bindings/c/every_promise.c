@@ -1308,6 +1308,7 @@ int main(void)
     of_text();
     of_no_bytes();
     of_one_slice_twice();
+    check("pb_version", strncmp(pb_version(), "promisebook " PB_VERSION "; ", strlen("promisebook " PB_VERSION "; ")) == 0);
     printf("%d answers, %d wrong\n", asked, wrong);
     return wrong != 0;
 }

@@ -3,6 +3,7 @@ import os
 import re
 import textwrap
 
+from bindings.cited import citation
 from bindings.words import about, about_struct
 from declared import SLICE, grouped
 from kinds import BY_NAME
@@ -31,8 +32,8 @@ def answer_type(export):
     return c_type(export.answer) if isinstance(export.answer, str) else struct_name(export.group, export.answer)
 
 
-def comment(text):
-    return "/* %s */\n" % textwrap.fill(text, WIDTH - 6, subsequent_indent="   ", break_on_hyphens=False)
+def comment(*paragraphs):
+    return "/* %s */\n" % "\n   ".join(textwrap.fill(text, WIDTH - 6, subsequent_indent="   ", break_on_hyphens=False) for text in paragraphs)
 
 
 def parameter(name, written):
@@ -75,6 +76,6 @@ def macros():
 def header(found):
     groups = []
     for group, exported in grouped(found).items():
-        functions = "\n".join(comment(export.sentence) + declaration(export) for export in exported)
+        functions = "\n".join(comment(export.sentence, citation(export)) + declaration(export) for export in exported)
         groups.append("/* ---- %s\n" % comment(about(group))[3:] + functions)
     return filled_file("bindings/promisebook.h.in", MACROS=macros(), STRUCTS=structs(found), FUNCTIONS="\n".join(groups))

@@ -29,3 +29,8 @@ def cited(export):
         ("refused", shortened(once(edit for row in rows for edit in contracts().refused(row)))),
     ]
     return [(what, names) for what, names in found if names]
+
+
+def citation(export):
+    """The same in a line, as the header and the crate end what they say of a function."""
+    return "Cited by %s." % "; ".join("%s %s" % pair for pair in cited(export))

@@ -2,7 +2,7 @@
 import os
 import textwrap
 
-from bindings.cited import cited
+from bindings.cited import citation
 from bindings.rust_answers import is_struct
 from bindings.rust_bodies import body
 from bindings.rust_examples import example
@@ -26,8 +26,7 @@ def wrapped(text):
 
 
 def function_text(function):
-    citation = "Cited by %s." % "; ".join("%s %s" % pair for pair in cited(function.export))
-    comments = documented([*wrapped(function.sentence), "", "```", *example(function), "```", "", *wrapped(citation)])
+    comments = documented([*wrapped(function.sentence), "", "```", *example(function), "```", "", *wrapped(citation(function.export))])
     answer = function.answer.type
     head = "pub fn %s(%s)%s {" % (function.name, ", ".join("%s: %s" % pair for pair in function.parameters), " -> " + answer if answer != "()" else "")
     return "%s#[inline]\n%s%s\n%s}\n" % (comments, "#[must_use]\n" * must_use(answer), head, "".join("    %s\n" % line for line in body(function)))

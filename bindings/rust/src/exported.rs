@@ -1,5 +1,6 @@
 //! The exports of libpromisebook.a, and a safe call of each that takes slices.
 
+use core::ffi::{c_char, CStr};
 use core::mem::MaybeUninit;
 
 #[repr(C)]
@@ -48,6 +49,7 @@ pub struct TextSplit {
 // A function of numbers alone asks nothing of its caller. An answer of more than 16 bytes goes through memory: its place is passed first, and comes back. It is
 // declared so, as the archive's code has it, and not left to the compiler, so that inlining finds the same function on both sides.
 unsafe extern "C" {
+    safe fn pb_version() -> *const c_char;
     pub safe fn pb_u8_wrapping_add(x: u8, y: u8) -> u8;
     pub safe fn pb_u8_wrapping_add_signed(x: u8, y: i8) -> u8;
     pub safe fn pb_u8_wrapping_sub(x: u8, y: u8) -> u8;
@@ -384,6 +386,11 @@ unsafe extern "C" {
     fn pb_text_split_at(answer: *mut TextSplit, s: *const u8, s_len: usize, at: usize) -> *mut TextSplit;
     fn pb_text_is_ascii(s: *const u8, s_len: usize) -> bool;
     fn pb_text_valid_up_to(s: *const u8, s_len: usize) -> usize;
+}
+
+// The text is a constant of the archive, with a zero behind it.
+pub fn version() -> &'static CStr {
+    unsafe { CStr::from_ptr(pb_version()) }
 }
 
 // A slice is there, with its length, and one that is written is shared with nobody: what these functions ask is what Rust's types say. An answer that goes

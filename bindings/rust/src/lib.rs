@@ -59,6 +59,18 @@ use core::fmt;
 /// The version of the library, by which it is cited.
 pub const VERSION: &str = env!("CARGO_PKG_VERSION");
 
+/// What the archive that is linked was made from, in a line: the version, the kit, the hash of the crates, vstd's
+/// release (docs/CITING.md).
+///
+/// ```
+/// let said = promisebook::version().to_str().unwrap();
+/// assert!(said.starts_with(&format!("promisebook {};", promisebook::VERSION)));
+/// ```
+#[must_use]
+pub fn version() -> &'static core::ffi::CStr {
+    exported::version()
+}
+
 /// Why bytes are not read as a number of a type.
 #[derive(Clone, Copy, Debug, PartialEq, Eq)]
 pub enum NotDecimal {
