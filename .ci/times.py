@@ -15,6 +15,9 @@ RUN = re.compile(r"^rt: (\w+)(?: ran\b.*| proved, and its run FAILED) \((\d+) s\
 STEP = re.compile(r"^(.*): (\d+)$", re.M)
 TABLE = os.path.join(os.path.dirname(os.path.abspath(__file__)), "seconds.txt")
 SHORT = 4  # seconds that a crate without a line of the table is taken to need
+HEAD = """# About how many seconds the proof of each crate takes, as rt printed them, with up to four at a time on two cores that other work kept busy;
+# of a crate that is not named, %d or fewer. bindings/progress guesses by it; .ci/times.py --table writes it anew from a run of rt ci.
+"""
 
 
 def line(title, found, of):
@@ -31,8 +34,7 @@ def line(title, found, of):
 def write_table(log):
     rows = sorted((-int(seconds), name) for name, seconds in PROOF.findall(log) if int(seconds) > SHORT)
     with open(TABLE, "w", encoding="utf-8") as table:
-        table.write("# About how many seconds the proof of each crate takes, four at a time on two cores; of one that is not named, %d or fewer.\n" % SHORT)
-        table.write("# Written by .ci/times.py --table from what rt ci said; bindings/progress guesses by it.\n")
+        table.write(HEAD % SHORT)
         table.writelines("%s %d\n" % (name, -seconds) for seconds, name in rows)
 
 
