@@ -145,11 +145,14 @@ class Expressions:
             if self.accept("@"):
                 continue
             if self.accept("."):
-                left = "method", line, self.take(), left, self.arguments()
+                left = self.dotted(line, left)
             elif self.accept("["):
                 left = self.index(line, left)
             else:
                 return left
+
+    def dotted(self, line, left):
+        return "method", line, self.take(), left, self.arguments()
 
     def index(self, line, left):
         low = None if self.peek() == ".." else self.expression()

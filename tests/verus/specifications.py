@@ -101,19 +101,9 @@ class Items(rust_text.Items):
         right = self.implication()
         return ("where_matched", line, left, right) if left[0] == "matches" else ("implies", line, left, right)
 
-    def postfix(self):
-        left = self.primary()
-        while True:
-            line = self.line()
-            if self.accept("@"):
-                continue
-            if self.accept("."):
-                name = self.take()
-                left = ("method", line, name, left, self.arguments()) if self.peek() == "(" else ("field", line, left, name)
-            elif self.accept("["):
-                left = self.index(line, left)
-            else:
-                return left
+    def dotted(self, line, left):
+        name = self.take()
+        return ("method", line, name, left, self.arguments()) if self.peek() == "(" else ("field", line, left, name)
 
     def primary(self):
         if self.peek() == "(" and self.peek(1) == ")":
