@@ -1,10 +1,10 @@
-// Questions about the library's operations, each a line, and their answers (docs/ASK.md has the protocol). What can be asked, and what each takes and answers,
-// are the tables of `numbered`.
+// Questions about the library's operations, each a line, and their answers (docs/ASK.md has the protocol). `asked` says what a line asks; the tables of
+// `numbered` say what each operation answers.
 pub mod answers;
-pub mod arguments;
-pub mod names;
 
 use answers::Said;
+use asked::arguments;
+use asked::names;
 use numbered::Answer;
 use numbered::Numbers;
 use words::line::Words;

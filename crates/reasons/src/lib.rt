@@ -3,8 +3,8 @@ mod near;
 mod said;
 mod takes;
 
-use questions::arguments;
-use questions::names;
+use asked::arguments;
+use asked::names;
 use words::line::Word;
 use words::line::Words;
 

@@ -1,7 +1,7 @@
 use Prim.Native.Nat.{_≤_, _-_}
 use borrow.Author.Needs.{needs}
-use Rattle.questions.proofs.names.operation_of.Statement.{statement}
-use Rattle.questions.proofs.names.operation_of.Tie as tie
+use Rattle.asked.proofs.names.operation_of.Statement.{statement}
+use Rattle.asked.proofs.names.operation_of.Tie as tie
 
 abbrev Inv-loop : tie.InvT-loop
 Inv-loop names kind name start₀ start = start ≤ 255
