@@ -15,7 +15,7 @@ RUN = re.compile(r"^rt: (\w+)(?: ran\b.*| proved, and its run FAILED) \((\d+) s\
 STEP = re.compile(r"^(.*): (\d+)$", re.M)
 TABLE = os.path.join(os.path.dirname(os.path.abspath(__file__)), "seconds.txt")
 SHORT = 4  # seconds that a crate without a line of the table is taken to need
-HEAD = """# About how many seconds the proof of each crate takes, as rt printed them, with up to four at a time on two cores that other work kept busy;
+HEAD = """# About how many seconds the proof of each crate takes, as rt printed them, with up to four at a time on two cores;
 # of a crate that is not named, %d or fewer. bindings/progress guesses by it; .ci/times.py --table writes it anew from a run of rt ci.
 """
 
