@@ -1,4 +1,5 @@
 """The kinds of integer, each a type with its sign and width, and the letters that stand for several of them in operations/*.txt."""
+import functools
 from dataclasses import dataclass
 
 from digits import byte_words
@@ -38,6 +39,7 @@ class Kind:
         """2 to half as many bits: its square is the first number that does not fit."""
         return 2 ** (self.bits // 2)
 
+    @functools.lru_cache(None)
     def code_words(self):
         """What the words in capitals stand for."""
         return {
