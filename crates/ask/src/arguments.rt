@@ -3,7 +3,7 @@ use libc::STDOUT_FILENO;
 use questions::answers;
 
 // The bytes of the question so far; not ok where there are more than a line can hold.
-#[derive(Drop)]
+#[derive(Clone, Copy)]
 struct Joined {
     ok: bool,
     length: usize,

@@ -5,7 +5,7 @@ use words::places;
 
 // What is known between two reads: how many bytes of a line are held, whether it has more than can be held, how many bytes of answers are still to be
 // written, and whether there is anything left to do.
-#[derive(Drop)]
+#[derive(Clone, Copy)]
 struct State {
     held: usize,
     long: bool,

@@ -65,7 +65,7 @@ pub fn place_of_other(kind: u8, operation: u8) -> usize {
 // ---- numbers
 
 // The numbers of a question, ok where each is one of its kind.
-#[derive(Drop)]
+#[derive(Clone, Copy)]
 pub struct Read {
     pub ok: bool,
     pub n: Numbers,

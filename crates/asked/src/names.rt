@@ -3,7 +3,7 @@ use words::line::Word;
 use words::list;
 
 // What a NAME says.
-#[derive(Drop)]
+#[derive(Clone, Copy)]
 pub struct Name {
     pub ok: bool,
     pub kind: u8,

@@ -1,4 +1,5 @@
 // The loops that bench/ times: each runs one operation over a slice, as a user's own loop would. They promise nothing.
+#![tactic(auto)]
 
 // ---- i32
 

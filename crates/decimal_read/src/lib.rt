@@ -1,5 +1,7 @@
 // Numbers without a sign, read from a part of a slice that says them in decimal (theory_decimal): 64 bits, which every other kind goes by, and then each of
 // those. No function asks anything of its caller.
+#![tactic(auto)]
+
 ghost use Rattle.std.specs.Prelude.{pos};
 ghost use Rattle.theory_whole.specs.Kind.{unsigned};
 ghost use Rattle.theory_answers.specs.Answer.{Answers};

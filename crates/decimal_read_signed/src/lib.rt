@@ -1,5 +1,7 @@
 // Numbers with a sign or none, read from a part of a slice that says them in decimal (theory_decimal): '-', and then a number as decimal_read reads it. No
 // function asks anything of its caller.
+#![tactic(auto)]
+
 ghost use Rattle.theory_whole.specs.Kind.{signed};
 ghost use Rattle.theory_answers.specs.Answer.{Answers};
 ghost use Rattle.theory_decimal.specs.Read as said;

@@ -1,12 +1,14 @@
 // Numbers written as decimal text at a place of a slice (theory_decimal): 64 bits, which every other kind goes by, and then each of those. No function asks
 // anything of its caller.
+#![tactic(auto)]
+
 ghost use Rattle.std.specs.Prelude.{◌≡◌, ◌+◌, ◌≤◌, ◌<◌, ◌^◌, length};
 ghost use Rattle.theory_lists.specs.Written.{written};
 ghost use Rattle.theory_decimal.specs.Written as text;
 
 // How many bytes were written, or refused: then 0.
 #[repr(C)]
-#[derive(Drop)]
+#[derive(Clone, Copy)]
 pub struct Length {
     pub ok: bool,
     pub value: usize,

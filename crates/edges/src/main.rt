@@ -1,6 +1,8 @@
 // Every operation on integers of 16, 32 and 64 bits and the size type, at the edges of its first argument crossed with those of its second.
 // A line for each operation and first argument holds the answers for all second arguments. generate/edges.py works out what it must print, from
 // meanings of their own.
+#![tactic(auto)]
+
 ghost use Rattle.std.specs.Prelude.{◌<◌, ◌≤◌};
 
 // ---- the arguments, as bits

@@ -1,5 +1,7 @@
 // Zeros and ones of every number of 8 and of 16 bits against a rule of their own, by comparing with powers of two; and bytes of a number there and
 // back, for every number of 16 bits and for the edges of 32 and 64.
+#![tactic(auto)]
+
 ghost use Rattle.std.specs.Prelude.{◌≡◌, ◌≤◌, ◌<◌};
 
 use libc::STDOUT_FILENO;

@@ -1,5 +1,7 @@
 // Every operation on integers of 8 bits, at every number, or every pair of them, beside the rule of `rule`. A line for each operation says at how many the two
 // agree.
+#![tactic(auto)]
+
 mod rule;
 mod whole;
 

@@ -2,7 +2,7 @@
 ghost use Rattle.std.specs.Prelude.{◌<◌};
 
 // A whole number by its sign and its size. Zero may have either sign.
-#[derive(Drop)]
+#[derive(Clone, Copy)]
 pub struct Whole {
     pub negative: bool,
     pub size: u64,

@@ -1,5 +1,7 @@
 // Every slice of up to 4 bytes over a few values, with every part, place and other slice, and long slices at the edges of the blocks
 // that the operations go by: each answer is held against a rule that goes byte by byte.
+#![tactic(auto)]
+
 mod held;
 mod rule;
 

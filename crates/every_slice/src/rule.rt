@@ -63,7 +63,7 @@ pub fn occurs(s: &[u8], f: usize, t: usize, v: u8) -> bool {
 }
 
 // What an operation does to the part f..t: nothing, reverse it, replace it by another, copy it to a place, set the element at a place of it.
-#[derive(Drop)]
+#[derive(Clone, Copy)]
 pub enum Change {
     Nothing,
     Turned,

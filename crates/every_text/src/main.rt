@@ -1,6 +1,8 @@
 // Text tried as a whole: the worked values, every string of up to three bytes and every string of four edge bytes beside the rule of `rule`, every scalar
 // value written, read from both ends and split around, every number as white space or not, and a wrong byte at every place around the blocks of 64. A
 // line for each says how many were right.
+#![tactic(auto)]
+
 mod rule;
 
 ghost use Rattle.std.specs.Prelude.{◌≤◌, ◌<◌};

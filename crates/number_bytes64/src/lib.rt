@@ -1,5 +1,7 @@
 // A number from its bytes and back, lowest byte first (le) and highest first (be): the digits in base 256 (theory_digits). No function asks anything
 // of its caller: a slice of another length is refused, and so is a place from which the bytes would run past the end, before a byte is written.
+#![tactic(auto)]
+
 ghost use Rattle.std.specs.Prelude.{◌≡◌, ◌+◌, ◌*◌, pos, length};
 ghost use Rattle.theory_answers.specs.Answer.{Answers};
 ghost use Rattle.theory_lists.specs.Written.{Writes};
@@ -8,7 +10,7 @@ ghost use Rattle.theory_digits.specs.Number.{number, number_high};
 
 // The answer of a function that may refuse: a refusal has the value 0.
 #[repr(C)]
-#[derive(Drop)]
+#[derive(Clone, Copy)]
 pub struct Checked {
     pub ok: bool,
     pub value: u64,

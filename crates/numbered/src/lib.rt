@@ -1,5 +1,7 @@
 // Every operation that the faces export, under a number, with what it takes and answers: what programs go through (written by generate/ from the table of
 // operations). `numbered_integers` and `numbered_bytes` run them.
+#![tactic(auto)]
+
 ghost use Rattle.std.specs.Prelude.{◌≤◌};
 
 // ---- kinds of integer, and the families behind them
@@ -415,7 +417,7 @@ pub fn width(kind: u8) -> u64
 // ---- arguments and answers
 
 // The numbers among the arguments by their bits, of a number of 128 bits the upper ones apart; only the first two can be so wide.
-#[derive(Drop)]
+#[derive(Clone, Copy)]
 pub struct Numbers {
     pub first: u64,
     pub first_high: u64,
@@ -438,7 +440,7 @@ pub fn three(first: u64, second: u64, third: u64) -> Numbers {
 
 // The parts of an answer by their bits, those of a first number of 128 bits apart. A truth is 0 or 1, a comparison one of the three below; of bytes nothing
 // stands here.
-#[derive(Drop)]
+#[derive(Clone, Copy)]
 pub struct Answer {
     pub ok: bool,
     pub first: u64,

@@ -1,5 +1,7 @@
 // The operations on slices of bytes and on text, to run by their numbers (crate `numbered`); the modules of_* hold those of each (written by generate/ from the
 // table of operations).
+#![tactic(auto)]
+
 mod of_bytes;
 mod of_text;
 

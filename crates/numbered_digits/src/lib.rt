@@ -1,5 +1,7 @@
 // The operations of integers that take or answer bytes, to run by their numbers (crate `numbered`): a number's bytes, and decimal text; the modules of_* hold
 // those of each kind (written by generate/ from the table of operations).
+#![tactic(auto)]
+
 mod of_i16;
 mod of_i32;
 mod of_i64;

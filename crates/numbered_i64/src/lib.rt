@@ -1,4 +1,6 @@
 // The operations of i64 on numbers alone by their numbers (crate `numbered`), as the faces export them (written by generate/ from the table of operations).
+#![tactic(auto)]
+
 use numbered::{Answer, Numbers};
 use signed64_sums as own;
 use unsigned64_sums as other;

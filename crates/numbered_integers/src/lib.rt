@@ -1,4 +1,6 @@
 // The operations of integers on numbers alone, to run by their numbers (crate `numbered`), at every kind (written by generate/).
+#![tactic(auto)]
+
 use numbered::{Answer, Numbers};
 
 // The library's answer. Refused where there is no such kind.

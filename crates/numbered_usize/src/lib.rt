@@ -1,4 +1,6 @@
 // The operations of usize on numbers alone by their numbers (crate `numbered`), as the faces export them (written by generate/ from the table of operations).
+#![tactic(auto)]
+
 use numbered::{Answer, Numbers};
 use signed_size_sums as other;
 

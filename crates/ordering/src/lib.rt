@@ -1,4 +1,6 @@
 // What can be read off the answer of a comparison: the six tests, and its number.
+#![tactic(auto)]
+
 ghost use Rattle.std.specs.Prelude.{◌≡◌, not};
 ghost use Rattle.theory_whole.specs.Order.{is_less, is_equal, is_greater, numbered};
 
@@ -6,7 +8,7 @@ use theory_whole::Ordering;
 
 // Some ordering, by its number, or none: what comparing two integers answers is always some.
 #[repr(C)]
-#[derive(Drop)]
+#[derive(Clone, Copy)]
 pub struct PartialOrdering {
     pub ok: bool,
     pub value: i8,

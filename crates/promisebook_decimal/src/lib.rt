@@ -1,4 +1,6 @@
 // Numbers as decimal text, of which vstd promises nothing: each function's contract is that of the operation itself, and its body a call of it.
+#![tactic(auto)]
+
 ghost use Rattle.std.specs.Prelude.{pos};
 ghost use Rattle.theory_whole.specs.Kind.{unsigned, signed};
 ghost use Rattle.theory_answers.specs.Answer.{Answers};

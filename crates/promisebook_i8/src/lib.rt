@@ -1,5 +1,7 @@
 // What vstd promises of i8, kept: each function's contract is vstd's clause (vstd_integers, specs/Signed.antt and specs/Compare.antt), and its body a
 // call of ours.
+#![tactic(auto)]
+
 ghost use Rattle.std.specs.Prelude.{◌≡◌, pos};
 ghost use Rattle.theory_answers.specs.Answer.{Answers, answered};
 ghost use Rattle.theory_whole.specs.Order.{numbered};

@@ -1,5 +1,7 @@
 // A number's bytes. Lowest first, what vstd promises, kept: each function's contract is vstd's shifts and masks (vstd_number_bytes, specs/Bytes.antt), and
 // its body a call of ours. Highest first, of which vstd promises nothing, the contracts are those of the operations themselves.
+#![tactic(auto)]
+
 ghost use Rattle.std.specs.Prelude.{pos};
 ghost use Rattle.theory_answers.specs.Answer.{Answers};
 ghost use Rattle.theory_lists.specs.Written.{Writes};

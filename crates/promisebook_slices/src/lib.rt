@@ -1,5 +1,7 @@
 // What vstd promises of slices, kept for slices of bytes: vstd's slice is the part from..to of s. Each function's contract is the promise of its name
 // (vstd_slices, specs/Promises.antt: vstd's clause, the places, and what a refusal leaves), and its body a call of ours.
+#![tactic(auto)]
+
 ghost use Rattle.vstd_slices.specs.Promises as promise;
 
 // ---- reading

@@ -1,5 +1,7 @@
 // What vstd states of text, kept by running code: each function's contract is its promise in vstd's terms (vstd_text/specs/Promises.antt), which fixes
 // the answer and what is left in the slice for all arguments; its body is a call of ours.
+#![tactic(auto)]
+
 ghost use Rattle.vstd_text.specs.Promises as promise;
 
 // ---- one scalar value

@@ -1,4 +1,6 @@
 // What vstd promises of zeros and ones, kept: each function's contract is vstd's count by halving (specs/Zeros.antt), and its body a call of ours.
+#![tactic(auto)]
+
 ghost use Rattle.std.specs.Prelude.{◌≡◌};
 ghost use Rattle.vstd_zeros.specs.Zeros.{vstd_trailing_zeros, vstd_leading_zeros, vstd_trailing_ones, vstd_leading_ones};
 

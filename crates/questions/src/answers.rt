@@ -4,7 +4,7 @@ use numbered::Answer;
 use spelled::words;
 
 // What a question is answered: the kind, the operation, how many bytes the room has that was lent, and the numbers.
-#[derive(Drop)]
+#[derive(Clone, Copy)]
 pub enum Said {
     Unknown,
     Malformed,

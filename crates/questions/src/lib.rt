@@ -1,5 +1,7 @@
 // Questions about the library's operations, each a line, and their answers (docs/ASK.md has the protocol). `asked` says what a line asks; the tables of
 // `numbered` say what each operation answers.
+#![tactic(auto)]
+
 pub mod answers;
 
 use answers::Said;

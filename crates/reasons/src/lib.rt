@@ -1,4 +1,6 @@
 // Why a question has no answer, in lines on standard error, for a person who asks by arguments. Of a question that has one nothing is said.
+#![tactic(auto)]
+
 mod near;
 mod said;
 mod takes;

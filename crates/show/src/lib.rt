@@ -1,4 +1,6 @@
 // How the programs write a kind, an operation, a number and an answer.
+#![tactic(auto)]
+
 use libc::STDOUT_FILENO;
 use numbered::Answer;
 

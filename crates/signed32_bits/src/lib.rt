@@ -1,4 +1,6 @@
 // Signed integers of 32 bits: shifts, which multiply and divide by powers of two (theory_whole). No function asks anything of its caller.
+#![tactic(auto)]
+
 ghost use Rattle.std.specs.Prelude.{◌≡◌, ◌%◌, ◌^◌, pos, ◌*ℤ◌};
 ghost use Rattle.theory_whole.specs.Kind.{signed};
 ghost use Rattle.theory_whole.specs.Division.{ediv};

@@ -1,4 +1,6 @@
 // Signed integers of 8 bits: quotients and remainders (theory_whole). No function asks anything of its caller.
+#![tactic(auto)]
+
 ghost use Rattle.std.specs.Int.Signed.{quot_z, rem_z};
 ghost use Rattle.theory_whole.specs.Kind.{signed};
 ghost use Rattle.theory_whole.specs.Division.{ediv, emod};

@@ -1,4 +1,6 @@
 // Signed integers of 8 bits: sums, differences and products, then wrap or refuse (theory_whole). No function asks anything of its caller.
+#![tactic(auto)]
+
 ghost use Rattle.std.specs.Prelude.{◌≡◌, not, ◌&&◌, ℤ, pos, ◌+ℤ◌, ◌-ℤ◌, ◌*ℤ◌};
 ghost use Rattle.std.specs.Int.Signed.{quot_z};
 ghost use Rattle.theory_whole.specs.Kind.{signed};
@@ -10,7 +12,7 @@ use unsigned8_sums as unsigned;
 
 // The answer of an operation that may refuse: a refusal has the value 0.
 #[repr(C)]
-#[derive(Drop)]
+#[derive(Clone, Copy)]
 pub struct Checked {
     pub ok: bool,
     pub value: i8,

@@ -1,4 +1,6 @@
 // Signed integers of 64 bits: sign, magnitude and order (theory_whole). No function asks anything of its caller.
+#![tactic(auto)]
+
 ghost use Rattle.std.specs.Prelude.{◌≡◌, cond, pos, neg_ℤ, nat_abs};
 ghost use Rattle.theory_whole.specs.Kind.{signed};
 ghost use Rattle.theory_answers.specs.Answer.{Answers};

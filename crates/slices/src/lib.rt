@@ -1,32 +1,34 @@
 // Reading the part from..to of a slice of bytes: its length and its elements, counted from `from`. Every function refuses where from and to are not
 // the ends of a part (from > to, or to past the end), and asks nothing of its caller.
+#![tactic(auto)]
+
 ghost use Rattle.std.specs.Prelude.{◌≡◌, false, ◌+◌, ◌-◌, ◌<◌, length, get_or};
 ghost use Rattle.theory_answers.specs.Says.{Says, Outcome};
 ghost use Rattle.theory_lists.specs.Part.{part, Within};
 
 #[repr(C)]
-#[derive(Drop)]
+#[derive(Clone, Copy)]
 pub struct Byte {
     pub ok: bool,
     pub value: u8,
 }
 
 #[repr(C)]
-#[derive(Drop)]
+#[derive(Clone, Copy)]
 pub struct Number {
     pub ok: bool,
     pub value: usize,
 }
 
 #[repr(C)]
-#[derive(Drop)]
+#[derive(Clone, Copy)]
 pub struct Verdict {
     pub ok: bool,
     pub value: bool,
 }
 
 #[repr(C)]
-#[derive(Drop)]
+#[derive(Clone, Copy)]
 pub struct FirstAndRest {
     pub ok: bool,
     pub first: u8,

@@ -1,5 +1,7 @@
 // Tests on the part from..to of a slice of bytes: whether it is, begins with, ends with or contains something, by the tests of `slices_whole`.
 // Every function refuses where from and to are not the ends of a part, and asks nothing of its caller.
+#![tactic(auto)]
+
 ghost use Rattle.std.specs.Prelude.{◌≡◌, false, ◌-◌, length, take, drop};
 ghost use Rattle.theory_answers.specs.Says.{Says, Outcome};
 ghost use Rattle.theory_lists.specs.Part.{part, Within, Has};

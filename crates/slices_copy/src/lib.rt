@@ -1,4 +1,6 @@
 // Copying a slice of bytes into the part from..to of another, by blocks of a size that the compiler knows, of which the last may begin inside the one before.
+#![tactic(auto)]
+
 ghost use Rattle.std.specs.Prelude.{◌≡◌, ◌+◌, ◌-◌, ◌≤◌, ◌<◌, length};
 ghost use Rattle.theory_answers.specs.Says.{Outcome};
 ghost use Rattle.theory_lists.specs.Part.{Within};

@@ -1,5 +1,7 @@
 // Moving the part from..to of a slice of bytes within the slice, by blocks of a size that the compiler knows. A block is read whole before any of it is written;
 // the one that may reach into another is held meanwhile.
+#![tactic(auto)]
+
 ghost use Rattle.std.specs.Prelude.{◌≡◌, ◌+◌, ◌-◌, ◌≤◌, ◌<◌, length};
 ghost use Rattle.theory_answers.specs.Says.{Outcome};
 ghost use Rattle.theory_lists.specs.Part.{part, Within};

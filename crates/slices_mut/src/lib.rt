@@ -1,5 +1,7 @@
 // Writing into the part from..to of a slice of bytes. Every function refuses where from and to are not the ends of a part (from > to, or to
 // past the end) and then writes nothing; what it writes it names, and every other byte is as it was (`written`).
+#![tactic(auto)]
+
 ghost use Rattle.std.specs.Prelude.{◌≡◌, ◌∷◌, [], ◌+◌, ◌-◌, ◌≤◌, ◌<◌, length, take, replicate};
 ghost use Rattle.theory_answers.specs.Says.{Outcome};
 ghost use Rattle.theory_lists.specs.Part.{Within};

@@ -1,11 +1,13 @@
 // Parts of the part from..to of a slice of bytes. Every function refuses where from and to are not the ends of a part (from > to, or to past the
 // end), and asks nothing of its caller. a, e and m are counted from `from`, the answers from the start of s.
+#![tactic(auto)]
+
 ghost use Rattle.std.specs.Prelude.{◌≡◌, ◌+◌, ◌-◌, ◌≤◌, ◌<◌, min};
 ghost use Rattle.theory_answers.specs.Says.{Outcome};
 ghost use Rattle.theory_lists.specs.Part.{Within, part_or_none};
 
 #[repr(C)]
-#[derive(Drop)]
+#[derive(Clone, Copy)]
 pub struct Range {
     pub ok: bool,
     pub from: usize,
@@ -13,7 +15,7 @@ pub struct Range {
 }
 
 #[repr(C)]
-#[derive(Drop)]
+#[derive(Clone, Copy)]
 pub struct Split {
     pub ok: bool,
     pub from: usize,

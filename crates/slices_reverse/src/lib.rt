@@ -1,4 +1,6 @@
 // Reversing the part from..to of a slice of bytes, from both ends: eight bytes and eight change places, and what is left one and one.
+#![tactic(auto)]
+
 ghost use Rattle.std.specs.Prelude.{◌≡◌, reverse, ◌+◌, ◌-◌, ◌≤◌, length, take};
 ghost use Rattle.theory_answers.specs.Says.{Outcome};
 ghost use Rattle.theory_lists.specs.Part.{part, Within};

@@ -1,5 +1,7 @@
 // Tests on whole slices of bytes: whether two are the same, and whether one has a value. They go by blocks of a size that the compiler knows, of which the
 // last may begin inside the one before.
+#![tactic(auto)]
+
 ghost use Rattle.std.specs.Prelude.{◌≡◌, ◌≤◌, ◌<◌, length};
 ghost use Rattle.theory_answers.specs.Says.{Says};
 ghost use Rattle.theory_lists.specs.Part.{Has};

@@ -3,7 +3,7 @@ ghost use Rattle.std.specs.Prelude.{◌%◌};
 ghost use Rattle.spelled.specs.Hex.{Spells, Digit};
 
 // How many bytes were read, or refused: then 0.
-#[derive(Drop)]
+#[derive(Clone, Copy)]
 pub struct Length {
     pub ok: bool,
     pub value: usize,

@@ -1,5 +1,7 @@
 // How questions and answers spell what operations take and answer: numbers of each kind by the functions that its face exports (written by generate/), bytes,
 // and the words for a truth and a comparison. Each writer answers the place behind what it wrote. Where there is no room it writes nothing.
+#![tactic(auto)]
+
 pub mod hex;
 mod of_i16;
 mod of_i32;
@@ -15,7 +17,7 @@ mod of_usize;
 // ---- reading
 
 // A number by its bits, of one of 128 bits the upper ones apart; or refused.
-#[derive(Drop)]
+#[derive(Clone, Copy)]
 pub struct Number {
     pub ok: bool,
     pub low: u64,

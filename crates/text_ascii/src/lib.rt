@@ -1,4 +1,6 @@
 // Bytes below 0x80, by blocks of a size that the compiler knows.
+#![tactic(auto)]
+
 ghost use Rattle.std.specs.Prelude.{◌≡◌, true, ◌+◌, ◌≤◌, ◌<◌, length};
 ghost use Rattle.theory_answers.specs.Says.{Says};
 ghost use Rattle.theory_lists.specs.Part.{part};

@@ -1,4 +1,6 @@
 // How far text reaches, byte by byte with one table: the quick form. Blocks of ASCII between scalars, of 64 bytes or of 16, are passed over.
+#![tactic(auto)]
+
 ghost use Rattle.std.specs.Prelude.{◌≡◌, cond, ◌+◌, ◌-◌, ◌%◌, ◌≤◌, ◌<◌, length, eqb};
 ghost use Rattle.theory_text.specs.Reading.{ReadFrom};
 ghost use Rattle.theory_text.specs.Table.{After};

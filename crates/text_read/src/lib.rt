@@ -1,4 +1,6 @@
 // Reading one scalar: the first of a part of a slice, or the last.
+#![tactic(auto)]
+
 ghost use Rattle.std.specs.Prelude.{◌≡◌, ◌+◌, ◌≤◌, ◌<◌, length, get_or, drop, [], ◌∷◌};
 ghost use Rattle.theory_lists.specs.Part.{part, Within};
 ghost use Rattle.theory_text.specs.Text.{Begins, Ends, ReadIs};
@@ -9,14 +11,14 @@ ghost use Rattle.text_read.specs.Asked.{Leads};
 
 // A scalar and how many bytes its form has, or refused: then both are 0.
 #[repr(C)]
-#[derive(Drop)]
+#[derive(Clone, Copy)]
 pub struct Read {
     pub ok: bool,
     pub value: u32,
     pub length: usize,
 }
 
-#[derive(Drop)]
+#[derive(Clone, Copy)]
 struct Lead {
     bytes: usize,
     low: u8,

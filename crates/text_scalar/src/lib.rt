@@ -1,4 +1,6 @@
 // One scalar value: whether a number is one, how long its form is, white space. What is no scalar value is refused.
+#![tactic(auto)]
+
 ghost use Rattle.std.specs.Prelude.{◌≡◌};
 ghost use Rattle.theory_answers.specs.Says.{Says, Outcome};
 ghost use Rattle.theory_lists.specs.Part.{Has};
@@ -7,7 +9,7 @@ ghost use Rattle.theory_text.specs.WhiteSpace.{white_space};
 
 // A number of bytes, or refused: then it is 0.
 #[repr(C)]
-#[derive(Drop)]
+#[derive(Clone, Copy)]
 pub struct Length {
     pub ok: bool,
     pub value: usize,

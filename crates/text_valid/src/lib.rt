@@ -1,4 +1,6 @@
 // Text as a whole: how far it is valid, how many scalars it has, where it may be split. What is no text is refused.
+#![tactic(auto)]
+
 ghost use Rattle.std.specs.Prelude.{◌≡◌, true, false, cond, ◌+◌, ◌≤◌, ◌<◌, length, drop};
 ghost use Rattle.theory_answers.specs.Says.{Says, Outcome};
 ghost use Rattle.theory_text.specs.Text.{Valid};
@@ -9,7 +11,7 @@ ghost use Rattle.text_valid.specs.Onward.{Onward};
 
 // How many scalars, or refused: then 0.
 #[repr(C)]
-#[derive(Drop)]
+#[derive(Clone, Copy)]
 pub struct Counted {
     pub ok: bool,
     pub value: usize,
@@ -17,7 +19,7 @@ pub struct Counted {
 
 // The answer of a test, or refused: then false.
 #[repr(C)]
-#[derive(Drop)]
+#[derive(Clone, Copy)]
 pub struct Tested {
     pub ok: bool,
     pub value: bool,
@@ -25,7 +27,7 @@ pub struct Tested {
 
 // Both parts of a text: from 0 to `middle`, and from there to `end`; or refused: then both are 0.
 #[repr(C)]
-#[derive(Drop)]
+#[derive(Clone, Copy)]
 pub struct Split {
     pub ok: bool,
     pub middle: usize,

@@ -1,4 +1,6 @@
 // Unsigned integers of 16 bits: shifts, which multiply and divide by powers of two (theory_whole). No function asks anything of its caller.
+#![tactic(auto)]
+
 ghost use Rattle.std.specs.Prelude.{◌≡◌, ◌%◌, ◌^◌, pos, ◌*ℤ◌};
 ghost use Rattle.theory_whole.specs.Kind.{unsigned};
 ghost use Rattle.theory_whole.specs.Division.{ediv};

@@ -1,4 +1,6 @@
 // Unsigned integers of 8 bits: quotients, remainders and multiples (theory_whole). No function asks anything of its caller.
+#![tactic(auto)]
+
 ghost use Rattle.std.specs.Prelude.{◌≡◌, not, pos};
 ghost use Rattle.std.specs.Int.Signed.{quot_z, rem_z};
 ghost use Rattle.theory_whole.specs.Kind.{unsigned};

@@ -1,4 +1,6 @@
 // Unsigned integers of 8 bits: order (theory_whole). No function asks anything of its caller.
+#![tactic(auto)]
+
 ghost use Rattle.std.specs.Prelude.{◌≡◌, pos};
 ghost use Rattle.theory_whole.specs.Order.{order};
 

@@ -1,4 +1,6 @@
 // Unsigned integers of 64 bits: sums, differences and products, then wrap, refuse or clamp (theory_whole). No function asks anything of its caller.
+#![tactic(auto)]
+
 ghost use Rattle.std.specs.Prelude.{◌≡◌, ℤ, pos, ◌+ℤ◌, ◌-ℤ◌, ◌*ℤ◌};
 ghost use Rattle.theory_whole.specs.Kind.{unsigned};
 ghost use Rattle.theory_answers.specs.Answer.{Answers};
@@ -6,7 +8,7 @@ ghost use Rattle.theory_whole.specs.Fit.{wrap, clamp, refuse};
 
 // The answer of an operation that may refuse: a refusal has the value 0.
 #[repr(C)]
-#[derive(Drop)]
+#[derive(Clone, Copy)]
 pub struct Checked {
     pub ok: bool,
     pub value: usize,

@@ -4,7 +4,7 @@
 const MOST: usize = 6;
 
 // How many words there are, MOST + 1 where there are more, and where each of the first MOST begins and ends.
-#[derive(Drop)]
+#[derive(Clone, Copy)]
 pub struct Words {
     pub count: usize,
     from: [usize; 6],
@@ -12,7 +12,7 @@ pub struct Words {
 }
 
 // The bytes from `from` up to and without `to`.
-#[derive(Drop)]
+#[derive(Clone, Copy)]
 pub struct Word {
     pub from: usize,
     pub to: usize,

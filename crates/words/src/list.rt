@@ -2,7 +2,7 @@
 use crate::places;
 
 // The bytes from `from` up to and without `to`.
-#[derive(Drop)]
+#[derive(Clone, Copy)]
 pub struct Place {
     pub ok: bool,
     pub from: usize,

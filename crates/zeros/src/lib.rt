@@ -1,4 +1,6 @@
 // Zeros and ones at the ends of a number: the run at that end of its binary digits (theory_digits), counted bit by bit.
+#![tactic(auto)]
+
 ghost use Rattle.std.specs.Prelude.{◌≡◌};
 ghost use Rattle.theory_digits.specs.Runs.{leading, trailing};
 

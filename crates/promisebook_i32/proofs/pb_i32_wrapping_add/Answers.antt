@@ -1,0 +1,12 @@
+use mathlib.Core.Path.{◌∙◌}
+use mir.Syntax.{w32}
+use mir.Facts.{to_z-of_z}
+use Rattle.theory_machine.proofs.Bits.{some_bits, in_signed, read_back}
+use Rattle.vstd_integers.proofs.Signed.{wrapping_add_kept}
+use Rattle.promisebook_i32.proofs.pb_i32_wrapping_add.Goals as goal
+
+pub returns : goal.returns
+returns c =
+    let f = c.ranges in
+    let e = rw (to_z-of_z f.x, to_z-of_z f.y) at c.wrapping_add.ensures in
+    read_back w32 _ e ∙ e ∙ wrapping_add_kept 32 (some_bits w32) (in_signed w32 f.x) (in_signed w32 f.y)

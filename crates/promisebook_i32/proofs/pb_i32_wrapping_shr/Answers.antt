@@ -1,0 +1,12 @@
+use mathlib.Core.Path.{◌∙◌}
+use mir.Syntax.{w32}
+use mir.Facts.{to_z-of_z}
+use Rattle.theory_machine.proofs.Bits.{some_bits, in_signed, read_back}
+use Rattle.vstd_integers.proofs.Signed.{wrapping_shr_kept}
+use Rattle.promisebook_i32.proofs.pb_i32_wrapping_shr.Goals as goal
+
+pub returns : goal.returns
+returns c =
+    let f = c.ranges in
+    let e = rw (to_z-of_z f.x) at c.wrapping_shr.ensures in
+    read_back w32 _ e ∙ e ∙ wrapping_shr_kept 32 (some_bits w32) (in_signed w32 f.x) c.args.rhs

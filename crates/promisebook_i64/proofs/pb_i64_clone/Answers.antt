@@ -1,0 +1,7 @@
+use mathlib.Core.Path.{◌∙◌}
+use mir.Facts.{to_z-of_z}
+use Rattle.vstd_integers.proofs.Compare.{clone_kept}
+use Rattle.promisebook_i64.proofs.pb_i64_clone.Goals as goal
+
+pub returns : goal.returns
+returns c = to_z-of_z c.ranges.x ∙ clone_kept _

@@ -1,0 +1,10 @@
+use mir.Syntax.{w8}
+use mir.Facts.{to_z-of_z}
+use Rattle.theory_machine.proofs.Bits.{some_bits, in_signed}
+use Rattle.vstd_integers.proofs.Signed.{checked_add_kept}
+use Rattle.promisebook_i8.proofs.pb_i8_checked_add.Goals as goal
+
+pub returns : goal.returns
+returns c =
+    let f = c.ranges in
+    rw (to_z-of_z f.x, to_z-of_z f.y, checked_add_kept 8 (some_bits w8) (in_signed w8 f.x) (in_signed w8 f.y)) at c.checked_add.ensures

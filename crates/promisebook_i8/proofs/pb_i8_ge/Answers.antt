@@ -1,0 +1,7 @@
+use mir.Facts.{to_z-of_z}
+use Rattle.vstd_integers.proofs.Compare.{ge_kept}
+use Rattle.promisebook_i8.proofs.pb_i8_ge.Goals as goal
+
+pub returns : goal.returns
+returns c =
+    rw (c.compare.ensures, to_z-of_z c.ranges.x, to_z-of_z c.ranges.y, ge_kept c.args.x c.args.y) at c.is_ge.ensures

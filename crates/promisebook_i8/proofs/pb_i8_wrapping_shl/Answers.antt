@@ -1,0 +1,12 @@
+use mathlib.Core.Path.{◌∙◌}
+use mir.Syntax.{w8}
+use mir.Facts.{to_z-of_z}
+use Rattle.theory_machine.proofs.Bits.{some_bits, in_signed, read_back}
+use Rattle.vstd_integers.proofs.Signed.{wrapping_shl_kept}
+use Rattle.promisebook_i8.proofs.pb_i8_wrapping_shl.Goals as goal
+
+pub returns : goal.returns
+returns c =
+    let f = c.ranges in
+    let e = rw (to_z-of_z f.x) at c.wrapping_shl.ensures in
+    read_back w8 _ e ∙ e ∙ wrapping_shl_kept 8 (some_bits w8) (in_signed w8 f.x) c.args.rhs

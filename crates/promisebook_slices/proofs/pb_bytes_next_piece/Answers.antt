@@ -1,0 +1,5 @@
+use Rattle.vstd_slices.proofs.Promised.{next_piece_promised}
+use Rattle.promisebook_slices.proofs.pb_bytes_next_piece.Goals as goal
+
+pub returns : goal.returns
+returns c = next_piece_promised c.next_piece.ensures

@@ -1,0 +1,5 @@
+use Rattle.vstd_text.proofs.Promised.{scalar_len_promised}
+use Rattle.promisebook_text.proofs.pb_text_scalar_len.Goals as goal
+
+pub returns : goal.returns
+returns c = scalar_len_promised c.args.c c.scalar_len.ensures

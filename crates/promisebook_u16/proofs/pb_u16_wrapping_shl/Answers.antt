@@ -1,0 +1,6 @@
+use mathlib.Core.Path.{◌∙◌}
+use Rattle.vstd_integers.proofs.Unsigned.{wrapping_shl_kept}
+use Rattle.promisebook_u16.proofs.pb_u16_wrapping_shl.Goals as goal
+
+pub returns : goal.returns
+returns c = c.wrapping_shl.ensures ∙ wrapping_shl_kept 16 c.ranges.x.fits c.args.rhs

@@ -1,0 +1,8 @@
+use lib.IntN.{pos}
+use Rattle.vstd_integers.proofs.Compare.{gt_kept}
+use Rattle.promisebook_u32.proofs.pb_u32_gt.Goals as goal
+
+pub returns : goal.returns
+returns c =
+    let a = c.args in
+    rw (c.compare.ensures, gt_kept (pos a.x) (pos a.y)) at c.is_gt.ensures

@@ -1,0 +1,6 @@
+use mathlib.Core.Path.{◌∙◌}
+use Rattle.vstd_integers.proofs.Unsigned.{saturating_mul_kept}
+use Rattle.promisebook_u32.proofs.pb_u32_saturating_mul.Goals as goal
+
+pub returns : goal.returns
+returns c = let f = c.ranges in c.saturating_mul.ensures ∙ saturating_mul_kept 32 f.x.fits f.y.fits

@@ -1,0 +1,12 @@
+use mathlib.Core.Path.{◌∙◌}
+use mir.Syntax.{w32}
+use Rattle.theory_machine.proofs.Bits.{in_signed}
+use mir.Facts.{to_z-of_z}
+use Rattle.vstd_integers.proofs.Unsigned.{wrapping_add_signed_kept}
+use Rattle.promisebook_u32.proofs.pb_u32_wrapping_add_signed.Goals as goal
+
+pub returns : goal.returns
+returns c =
+    let f = c.ranges in
+    let e = rw (to_z-of_z f.y) at c.wrapping_add_signed.ensures in
+    e ∙ wrapping_add_signed_kept 32 f.x.fits (in_signed w32 f.y)

@@ -1,0 +1,6 @@
+use mathlib.Core.Path.{◌∙◌}
+use Rattle.vstd_integers.proofs.Unsigned.{wrapping_shl_kept}
+use Rattle.promisebook_u32.proofs.pb_u32_wrapping_shl.Goals as goal
+
+pub returns : goal.returns
+returns c = c.wrapping_shl.ensures ∙ wrapping_shl_kept 32 c.ranges.x.fits c.args.rhs

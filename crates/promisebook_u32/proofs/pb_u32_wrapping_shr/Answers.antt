@@ -1,0 +1,6 @@
+use mathlib.Core.Path.{◌∙◌}
+use Rattle.vstd_integers.proofs.Unsigned.{wrapping_shr_kept}
+use Rattle.promisebook_u32.proofs.pb_u32_wrapping_shr.Goals as goal
+
+pub returns : goal.returns
+returns c = c.wrapping_shr.ensures ∙ wrapping_shr_kept 32 c.ranges.x.fits c.args.rhs

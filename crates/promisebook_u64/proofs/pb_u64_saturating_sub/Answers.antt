@@ -1,0 +1,6 @@
+use mathlib.Core.Path.{◌∙◌}
+use Rattle.vstd_integers.proofs.Unsigned.{saturating_sub_kept}
+use Rattle.promisebook_u64.proofs.pb_u64_saturating_sub.Goals as goal
+
+pub returns : goal.returns
+returns c = let f = c.ranges in c.saturating_sub.ensures ∙ saturating_sub_kept 64 f.x.fits f.y.fits

@@ -1,0 +1,6 @@
+use mathlib.Core.Path.{◌∙◌}
+use Rattle.vstd_integers.proofs.Unsigned.{wrapping_sub_kept}
+use Rattle.promisebook_u8.proofs.pb_u8_wrapping_sub.Goals as goal
+
+pub returns : goal.returns
+returns c = let f = c.ranges in c.wrapping_sub.ensures ∙ wrapping_sub_kept 8 f.x.fits f.y.fits

@@ -1,0 +1,8 @@
+use lib.IntN.{pos}
+use Rattle.vstd_integers.proofs.Compare.{ge_kept}
+use Rattle.promisebook_usize.proofs.pb_usize_ge.Goals as goal
+
+pub returns : goal.returns
+returns c =
+    let a = c.args in
+    rw (c.compare.ensures, ge_kept (pos a.x) (pos a.y)) at c.is_ge.ensures

@@ -1,0 +1,33 @@
+use mir.Syntax.{w16}
+use mir.Val.{bits}
+use Prim.Native.Nat.{◌<◌}
+use native.Mathlib.Omega.{arith}
+use Rattle.theory_machine.proofs.Narrow.{widened, sum_narrowed, narrows, narrows_not, narrowed_is}
+use Rattle.signed16_sums.proofs.checked_add.Goals as goal
+
+narrow : bits w16 < 62
+narrow = omega arith
+
+pub overflow_cast-sum : goal.overflow_cast-sum
+overflow_cast-sum c = widened w16 narrow c.ranges.a
+
+pub overflow_cast-sum-2 : goal.overflow_cast-sum-2
+overflow_cast-sum-2 c = widened w16 narrow c.ranges.b
+
+pub overflow_add-sum : goal.overflow_add-sum
+overflow_add-sum c = (sum_narrowed w16 narrow c.ranges.a c.ranges.b).fits
+
+pub overflow_add-sum-2 : goal.overflow_add-sum-2
+overflow_add-sum-2 c = (sum_narrowed w16 narrow c.ranges.a c.ranges.b).raised
+
+pub overflow_cast-result : goal.overflow_cast-result
+overflow_cast-result c =
+    narrows w16 narrow (sum_narrowed w16 narrow c.ranges.a c.ranges.b) _ c.wrapped.ensures c.if-wrapped-ge65536.false
+
+pub returns-then-wrapped-ge65536 : goal.returns-then-wrapped-ge65536
+returns-then-wrapped-ge65536 c =
+    narrows_not w16 narrow (sum_narrowed w16 narrow c.ranges.a c.ranges.b) _ c.wrapped.ensures c.if-wrapped-ge65536.true
+
+pub returns-else-wrapped-ge65536 : goal.returns-else-wrapped-ge65536
+returns-else-wrapped-ge65536 c =
+    narrowed_is w16 narrow (sum_narrowed w16 narrow c.ranges.a c.ranges.b) _ c.wrapped.ensures c.if-wrapped-ge65536.false

@@ -1,0 +1,11 @@
+use mir.Syntax.{w16}
+use lib.Pow.{pow_pos}
+use lib.IntN.{◌+ℤ◌}
+use Rattle.theory_whole.proofs.Alike.{alike_add}
+use Rattle.theory_machine.proofs.Sums.{by_bits}
+use Rattle.signed16_sums.proofs.wrapping_add.Goals as goal
+
+pub returns : goal.returns
+returns c =
+    by_bits w16 ◌+ℤ◌ (alike_add (pow_pos 16)) c.ranges.a c.ranges.b c.wrapped.ensures
+    c.wrapped-2.ensures c.wrapping_add.ensures c.wrapped-3.ensures

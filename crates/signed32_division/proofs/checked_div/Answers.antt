@@ -1,0 +1,12 @@
+use mir.Syntax.{w32}
+use Rattle.theory_machine.proofs.Divisions.{divisible, truncated_refused, division_asks, quotient_answers}
+use Rattle.signed32_division.proofs.checked_div.Goals as goal
+
+pub nonzero_div-result : goal.nonzero_div-result
+nonzero_div-result c = division_asks w32 (divisible w32 c.ranges.a c.ranges.b c.divides.ensures c.if-divides.true)
+
+pub returns-then-divides : goal.returns-then-divides
+returns-then-divides c = quotient_answers w32 (divisible w32 c.ranges.a c.ranges.b c.divides.ensures c.if-divides.true)
+
+pub returns-else-divides : goal.returns-else-divides
+returns-else-divides c = truncated_refused w32 c.ranges.a c.ranges.b c.divides.ensures c.if-divides.false _

@@ -1,0 +1,11 @@
+use mir.Syntax.{w32}
+use lib.Pow.{pow_pos}
+use lib.IntN.{◌+ℤ◌}
+use Rattle.theory_whole.proofs.Alike.{alike_add}
+use Rattle.theory_machine.proofs.Sums.{by_bits}
+use Rattle.signed32_sums.proofs.wrapping_add.Goals as goal
+
+pub returns : goal.returns
+returns c =
+    by_bits w32 ◌+ℤ◌ (alike_add (pow_pos 32)) c.ranges.a c.ranges.b c.wrapped.ensures
+    c.wrapped-2.ensures c.wrapping_add.ensures c.wrapped-3.ensures

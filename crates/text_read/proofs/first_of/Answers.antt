@@ -1,0 +1,62 @@
+use Rattle.theory_lists.proofs.Between.{is_between, not_below, not_above}
+use Rattle.text_read.proofs.Tested.{few, second_out, two, third_out, three, fourth_out, all_four, tested}
+use native.Mathlib.Omega.{arith}
+use Rattle.text_read.proofs.first_of.Goals as goal
+
+pub returns-then-n-lt2 : goal.returns-then-n-lt2
+returns-then-n-lt2 c =
+    let a = c.args in
+    let r = c.row_of-row in
+    let l = r.result in
+    tested _ _ _ r.ensures (few l.low l.high a.b1 a.b2 a.b3 l.bytes (omega arith))
+
+pub returns-then-b1-row : goal.returns-then-b1-row
+returns-then-b1-row c =
+    let a = c.args in
+    let r = c.row_of-row in
+    let l = r.result in
+    tested _ _ _ r.ensures (second_out l.low l.high a.b1 a.b2 a.b3 l.bytes (omega arith) (not_below l.low l.high a.b1 (omega arith)))
+
+pub returns-then-row-b1 : goal.returns-then-row-b1
+returns-then-row-b1 c =
+    let a = c.args in
+    let r = c.row_of-row in
+    let l = r.result in
+    tested _ _ _ r.ensures (second_out l.low l.high a.b1 a.b2 a.b3 l.bytes (omega arith) (not_above l.low l.high a.b1 (omega arith)))
+
+pub returns-then-n-eq2 : goal.returns-then-n-eq2
+returns-then-n-eq2 c =
+    let a = c.args in
+    let r = c.row_of-row in
+    let l = r.result in
+    tested _ _ _ r.ensures (two l.low l.high a.b1 a.b2 a.b3 (is_between l.low l.high a.b1 (omega arith) (omega arith)) l.bytes (omega arith))
+
+pub returns-then-b2-ne2 : goal.returns-then-b2-ne2
+returns-then-b2-ne2 c =
+    let a = c.args in
+    let r = c.row_of-row in
+    let l = r.result in
+    tested _ _ _ r.ensures (third_out l.low l.high a.b1 a.b2 a.b3 (is_between l.low l.high a.b1 (omega arith) (omega arith)) l.bytes (omega arith) c.if-b2-ne2.true)
+
+pub returns-then-n-eq3 : goal.returns-then-n-eq3
+returns-then-n-eq3 c =
+    let a = c.args in
+    let r = c.row_of-row in
+    let l = r.result in
+    tested _ _ _ r.ensures (three l.low l.high a.b1 a.b2 a.b3 (is_between l.low l.high a.b1 (omega arith) (omega arith)) (omega arith) l.bytes (omega arith))
+
+pub returns-then-b3-ne2 : goal.returns-then-b3-ne2
+returns-then-b3-ne2 c =
+    let a = c.args in
+    let r = c.row_of-row in
+    let l = r.result in
+    tested _ _ _ r.ensures (fourth_out l.low l.high a.b1 a.b2 a.b3 (is_between l.low l.high a.b1 (omega arith) (omega arith))
+    (omega arith) l.bytes (omega (arith, r.ensures.most)) c.if-b3-ne2.true)
+
+pub returns : goal.returns
+returns c =
+    let a = c.args in
+    let r = c.row_of-row in
+    let l = r.result in
+    tested _ _ _ r.ensures (all_four l.low l.high a.b1 a.b2 a.b3 (is_between l.low l.high a.b1 (omega arith) (omega arith))
+    (omega arith) l.bytes (omega (arith, r.ensures.most)) (omega arith))

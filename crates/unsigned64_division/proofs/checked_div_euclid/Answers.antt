@@ -1,0 +1,4 @@
+use Rattle.unsigned64_division.proofs.checked_div_euclid.Goals as goal
+
+pub returns : goal.returns
+returns c = c.checked_div.ensures
