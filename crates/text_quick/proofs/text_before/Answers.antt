@@ -2,11 +2,13 @@ use borrow.Author.Rules.{rules}
 use Prim.Native.Nat.{◌+◌}
 use mathlib.Core.Path.{refl}
 use lib.ListN.{length}
+use Rattle.text_quick.specs.Shift.{table}
 use Rattle.text_quick.proofs.Rule.{good_zero, moves_none, moves_on, moves_whole, later_read, read_none}
 use native.Mathlib.Omega.{arith}
 use Rattle.text_quick.proofs.text_before.Goals as goal
 
 pub loop-i-init : goal.loop-i-init
+unfolding table
 loop-i-init c = (search rules, (refl, (moves_none _ _ _ good_zero, read_none _)))
 
 pub block-x-requires : goal.block-x-requires
