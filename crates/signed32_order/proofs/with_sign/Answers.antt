@@ -7,7 +7,7 @@ returns-then-magnitude-gt2147483648 c = negative_out w32 c.if-negative.true c.if
 
 pub returns-else-magnitude-gt2147483648 : goal.returns-else-magnitude-gt2147483648
 returns-else-magnitude-gt2147483648 c =
-    negative_in w32 c.?if-negative.true c.?if-magnitude-gt2147483648.false c.wrapping_sub.ensures c.wrapped.ensures
+    negative_in w32 c.if-negative.true c.if-magnitude-gt2147483648.false c.wrapping_sub.ensures c.wrapped.ensures
 
 pub returns-then-magnitude-lt2147483648 : goal.returns-then-magnitude-lt2147483648
 returns-then-magnitude-lt2147483648 c = natural_in w32 c.if-negative.false c.if-magnitude-lt2147483648.true

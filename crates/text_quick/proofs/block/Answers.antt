@@ -9,4 +9,4 @@ returns-then-ascii_block c =
 
 pub returns : goal.returns
 returns c =
-    moves_quarters _ _ _ _ _ _ _ c.?quarter-x1.ensures c.?quarter-x2.ensures c.?quarter-x3.ensures c.quarter.ensures
+    moves_quarters _ _ _ _ _ _ _ c.quarter-x1.ensures c.quarter-x2.ensures c.quarter-x3.ensures c.quarter.ensures

@@ -47,4 +47,4 @@ returns-then-c-eq12288 c = is_one white_space _ 0x3000 refl c.if-c-eq12288.true
 pub returns : goal.returns
 returns c =
     let n = c.if-c-eq12288.false in
-    (not_white _ c.?if-c-le8202.false (c.?if-c-eq8232.false, (c.?if-c-eq8233.false, (c.?if-c-eq8239.false, (c.?if-c-eq8287.false, (n, tt))))))
+    (not_white _ c.if-c-le8202.false (c.if-c-eq8232.false, (c.if-c-eq8233.false, (c.if-c-eq8239.false, (c.if-c-eq8287.false, (n, tt))))))
