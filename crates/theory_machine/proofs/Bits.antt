@@ -1,7 +1,7 @@
 -- A signed integer is stored as bits: `of_z w` writes a number as bits and `to_z w` reads them, so where code holds a signed a, a goal says
 -- `to_z w (of_z w a)`. `SFits w a` is how the language says that a is of the signed kind. This is the one file that names the widths.
 use mathlib.Core.Path.{◌≡◌, refl, ap, ◌∙◌}
-use Prim.Native.Nat.{ℕ, suc, ◌+◌, ◌-◌, ◌*◌, ◌/◌, ◌%◌, ◌^◌, ◌≤◌, ◌<◌}
+use Prim.Native.Nat.{ℕ, suc, ◌+◌, ◌-◌, ◌*◌, ◌/◌, ◌%◌, ◌^◌, ◌<◌}
 use native.Mathlib.Nat.{lt_of_le_of_lt, mod-lt}
 use native.Mathlib.Omega.{arith}
 use lib.Pow.{pow_pos}

@@ -2,7 +2,7 @@
 -- Euclidean ones.
 use mathlib.Core.Path.{◌≡◌, refl, sym, ap, ◌∙◌}
 use mathlib.Core.Bool.{Bool, true, false, not, ◌&&◌}
-use Prim.Native.Nat.{zero, suc, ◌+◌, ◌-◌, ◌/◌, ◌^◌, ◌<◌}
+use Prim.Native.Nat.{zero, suc, ◌-◌, ◌/◌, ◌^◌, ◌<◌}
 use native.Mathlib.Nat.{lt_of_le_of_lt}
 use native.Mathlib.Omega.{arith}
 use lib.Pow.{pow_pos}

@@ -1,7 +1,7 @@
 -- `clamp k z` is of kind k and nearest to z, and no other number of the kind is as near.
 use mathlib.Core.Path.{◌≡◌}
 use mathlib.Core.Logic.{◌⊎◌, inl, inr, ⊎_elim}
-use Prim.Native.Nat.{◌+◌, ◌-◌, ◌≤◌, ◌<◌}
+use Prim.Native.Nat.{◌+◌, ◌≤◌, ◌<◌}
 use native.Mathlib.Omega.{arith}
 use lib.IntN.{ℤ, pos, negsuc, nat_abs, ◌-ℤ◌}
 use Rattle.theory_whole.specs.Kind.{Kind, least, greatest}

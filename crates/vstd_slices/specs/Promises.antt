@@ -1,6 +1,6 @@
 -- What each export promises of the part from f to t of s, which is vstd's slice. Each is ok exactly where there is such a part and what vstd demands or tests
 -- holds; then vstd's clause holds, of the places that are answered too; of a refusal every value is 0 or false, and a slice that was lent is as it was.
-use Rattle.std.specs.Prelude.{◌≡◌, Bool, false, List, ℕ, suc, ◌+◌, ◌-◌, ◌≤◌, ◌<◌, min, length, get_or}
+use Rattle.std.specs.Prelude.{◌≡◌, Bool, false, List, ℕ, ◌+◌, ◌-◌, ◌≤◌, ◌<◌, min, length, get_or}
 use Rattle.theory_answers.specs.Says.{Says, Outcome}
 use Rattle.theory_lists.specs.Part.{part, Within, Has}
 use Rattle.vstd_slices.specs.Slices as vstd
