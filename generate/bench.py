@@ -1,10 +1,10 @@
 """The loops that bench/ times: the crate bench_loops, in one file.
 
-Each part of the file is a template PART.rt.in, filled once for each kind that it names, and PART.antt.in is the proof of every loop in it."""
+Each part of the file is a template PART.rt.in, filled once for each kind that it names, and PART.invariants.antt.in, PART.answers.antt.in are the proof of every loop in it."""
 import os
 import re
 
-from templates import CRATES, TEMPLATES, filled, read
+from templates import CRATES, PROOF, TEMPLATES, filled, read
 
 SOURCE = os.path.join(TEMPLATES, "bench_loops")
 CRATE = os.path.join(CRATES, "bench_loops")
@@ -29,7 +29,8 @@ def files():
     for part, table in parts():
         code = filled(read(os.path.join(SOURCE, part + ".rt.in")), table)
         lib += code
-        proof = read(os.path.join(SOURCE, part + ".antt.in"))
-        for loop in re.findall(r'^pub extern "C" fn (\w+)', code, re.M):
-            yield os.path.join(CRATE, "proofs", loop, "Proof.antt"), filled(proof, {"LOOP": loop, "DASHED": loop.replace("_", "-")})
+        for file, ending in PROOF.items():
+            path = os.path.join(SOURCE, "%s.%s.in" % (part, ending))
+            for loop in re.findall(r'^pub extern "C" fn (\w+)', code, re.M) if os.path.exists(path) else []:
+                yield os.path.join(CRATE, "proofs", loop, file), filled(read(path), {"LOOP": loop})
     yield os.path.join(CRATE, "src", "lib.rt"), lib

@@ -13,7 +13,7 @@ LINE = re.compile(r"^(\w+):(.*)$", re.M)
 
 def named(text, known):
     """The crates that a text names: by a path of code, by an import, by a module of laws."""
-    found = re.findall(r"\b(\w+)::|^use (\w+) as |Rattle·(\w+)", re.sub(r"(?m)^ *//.*$", "", text), re.M)
+    found = re.findall(r"\b(\w+)::|^use (\w+) as |Rattle\.(\w+)", re.sub(r"(?m)^ *//.*$", "", text), re.M)
     return {name for names in found for name in names if name in known}
 
 

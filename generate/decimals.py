@@ -4,7 +4,7 @@ lib.rt.in is how a file begins, with what reads or writes 64 bits; unsigned.rt.i
 proof's template is that of its function, with words in capitals too. proofs/core has those of lib.rt.in."""
 import os
 
-from templates import CRATES, SIGNS, TEMPLATES, WIDTHS, filled, function_name, read, templates, type_name, words
+from templates import CRATES, SIGNS, TEMPLATES, WIDTHS, filled, function_name, proofs, read, templates, type_name, words
 
 # The kind that lib.rt.in reads or writes, and its width.
 CORE = "u64"
@@ -21,19 +21,15 @@ def parts(source):
                 yield sign, width, table
 
 
-def proofs(folder, width):
-    return templates(folder, width).items() if os.path.isdir(folder) else []
-
-
 def crate(name):
     source, place = os.path.join(TEMPLATES, name), os.path.join(CRATES, name)
     lib = read(os.path.join(source, "lib.rt.in"))
-    for function, proof in proofs(os.path.join(source, "proofs", "core"), CORE_WIDTH):
-        yield os.path.join(place, "proofs", function, "Proof.antt"), proof
+    for function, file, proof in proofs(os.path.join(source, "proofs", "core"), CORE_WIDTH):
+        yield os.path.join(place, "proofs", function, file), proof
     for part, width, table in parts(source):
         lib += filled(templates(source, width)[part], table)
-        for template, proof in proofs(os.path.join(source, "proofs", part), width):
-            yield os.path.join(place, "proofs", function_name(template, table), "Proof.antt"), filled(proof, table)
+        for template, file, proof in proofs(os.path.join(source, "proofs", part), width):
+            yield os.path.join(place, "proofs", function_name(template, table), file), filled(proof, table)
     yield os.path.join(place, "src", "lib.rt"), lib
 
 

@@ -28,7 +28,7 @@ class Export:
     def filled(self, text):
         """A text of the table with the words in capitals and the homes filled in."""
         table = self.kind.code_words() if self.kind else {}
-        table = {**table, "NAME": self.name, "DASHED": self.name.replace("_", "-")}
+        table = {**table, "NAME": self.name}
         for home, crate in self.homes().items():
             text = re.sub(r"\b%s::" % home, crate + "::", text)
         return filled(text, table)
@@ -93,14 +93,14 @@ class Export:
     @property
     def contract(self):
         """The ensures: in brackets stands what enters as a whole number, `pos` of an unsigned one."""
-        types = {**dict(self.parameters), "r": self.gives, "r .value": self.value_type}
+        types = {**dict(self.parameters), "result": self.gives, "result.value": self.value_type}
 
         def whole(match):
             name = match.group(1)
             if types.get(name) not in BY_NAME:
                 raise self.operation.fault("its contract has [%s], which is no number that it takes or gives" % name)
             unsigned = BY_NAME[types[name]].sign == "unsigned"
-            text = "pos %s" % ("(%s)" % name if " " in name else name) if unsigned else name
+            text = "pos " + name if unsigned else name
             return "(%s)" % text if " " in text and match.start() > 0 else text
 
         return self.filled(re.sub(r"\[([^\]]*)\]", whole, self.operation.get("contract")))
@@ -199,7 +199,7 @@ def number(word, export):
 
 # ---- the structs that are answered, as the crates that hold the code have them
 
-STRUCT = re.compile(r"^#\[repr\(C\)\]\npub struct (\w+) \{\n(.*?)^\}", re.M | re.S)
+STRUCT = re.compile(r"^#\[repr\(C\)\]\n(?:#\[derive\([^\n]*\n)?pub struct (\w+) \{\n(.*?)^\}", re.M | re.S)
 FIELD = re.compile(r"^ *pub (\w+): (\w+),$", re.M)
 
 

@@ -5,7 +5,7 @@ proof's template is that of its function, with words in capitals too."""
 import os
 import re
 
-from templates import CRATES, TEMPLATES, WIDTHS, filled, function_name, read, templates, words
+from templates import CRATES, TEMPLATES, WIDTHS, filled, function_name, proofs, read, templates, words
 
 # The ends of a number's digits: what is counted there, which digits are left where those at the other end are shifted out, and how they are.
 ENDS = [
@@ -15,7 +15,7 @@ ENDS = [
 # The two orders of a number's bytes.
 ORDERS = [
     {"ORDER": "le", "NUMBER": "number", "DIGITS": "digits", "VALUE": "loaded(s)"},
-    {"ORDER": "be", "NUMBER": "numberHigh", "DIGITS": "digitsHigh", "VALUE": "turned(loaded(s))"},
+    {"ORDER": "be", "NUMBER": "number_high", "DIGITS": "digits_high", "VALUE": "turned(loaded(s))"},
 ]
 # The crates: their templates, which widths they hold, and what exists once for each end or order.
 WHOLE = [("zeros", "zeros", [width for width in WIDTHS if width.has_zeros], "end", ENDS)]
@@ -45,12 +45,13 @@ def for_each_byte(text, width):
     """Lines that begin with EACH stand, together, for such lines for each byte but the lowest."""
 
     def repeated(match):
-        lines = match.group().replace("EACH ", "")
+        lines = re.sub(r"EACH ?", "", match.group())
         return "".join(
-            lines.replace("PLACE", str(place)).replace("BELOW", str(place - 1)).replace("SCALE", str(256**place)) for place in range(1, width.bits // 8)
+            lines.replace("PLACE", str(place)).replace("BELOW", str(place - 1)).replace("ABOVE", str(place + 1)).replace("SCALE", str(256**place))
+            for place in range(1, width.bits // 8)
         )
 
-    return re.sub(r"(^ *EACH .*\n)+", repeated, text, flags=re.M)
+    return re.sub(r"(^ *EACH\b.*\n)+", repeated, text, flags=re.M)
 
 
 def whole_crates():
@@ -64,8 +65,8 @@ def whole_crates():
             for further in each:
                 table = {**table, **byte_words(width, further), **further}
                 lib += filled(for_each_byte(code[part], width), table)
-                for template, proof in templates(os.path.join(folder, "proofs"), width).items():
-                    yield os.path.join(CRATES, name, "proofs", function_name(template, table), "Proof.antt"), filled(for_each_byte(proof, width), table)
+                for template, file, proof in proofs(os.path.join(folder, "proofs"), width):
+                    yield os.path.join(CRATES, name, "proofs", function_name(template, table), file), filled(for_each_byte(proof, width), table)
         yield os.path.join(CRATES, name, "src", "lib.rt"), lib
 
 

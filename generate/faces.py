@@ -7,7 +7,7 @@ import re
 
 from declared import exports
 from table import Fault
-from templates import CRATES, TEMPLATES, WIDTHS, filled, read, templates
+from templates import CRATES, PROOF, TEMPLATES, WIDTHS, filled, proofs, read
 
 LONGEST = 100  # columns of a signature, as the formatter lays it out
 WIDEST = 160  # columns of a line that imports
@@ -31,14 +31,14 @@ def names_of(module):
 
 def cited(export):
     """The words of a contract that are neither its own nor numbers."""
-    own = {"r", "now"} | {name for name, _ in export.parameters}
-    words = re.findall(r"(?<![\w.-])[A-Za-z][\w.-]*", re.sub(r" \.\w+", "", export.contract))
-    return [word for word in words if word not in own]
+    own = {"result"} | {name for name, _ in export.parameters}
+    words = re.findall(r"(?<![\w.])[A-Za-z][\w.]*", export.contract)
+    return [word for word in words if word.split(".")[0] not in own]
 
 
 def cites(export, name):
-    """Whether a contract has a name of the kit's, or an operator, as _+ℤ_."""
-    return " %s " % name.strip("_") in export.contract if name.startswith("_") else name in cited(export)
+    """Whether a contract has a name of the kit's, or an operator, as ◌+ℤ◌."""
+    return " %s " % name.strip("◌") in export.contract if name.startswith("◌") else name in cited(export)
 
 
 def imported(module, names):
@@ -63,11 +63,11 @@ def uses(found):
         elif rest.startswith("as "):
             crate, file = module.split("/")
             names = [word for word in left if word.startswith(rest[3:] + ".") and word.split(".")[1] in names_of(module)]
-            lines.append("ghost use Rattle·%s.specs.%s %s;\n" % (crate, file, rest))
+            lines.append("ghost use Rattle.%s.specs.%s %s;\n" % (crate, file, rest))
         else:
             crate, file = module.split("/")
             names = [name for name in names_of(module) if name in left]
-            lines += imported("Rattle·%s.specs.%s" % (crate, file), names)
+            lines += imported("Rattle.%s.specs.%s" % (crate, file), names)
         for name in names:
             left.pop(name, None)
     for word, export in left.items():
@@ -87,30 +87,30 @@ def signature(export):
 def function(export):
     heading, note = export.operation.record.get("heading"), export.operation.record.get("note")
     body = "".join("    %s\n" % line for line in export.body.split("\n"))
-    return "%s\n%s#[no_mangle]\n%s\n    ensures { λ r. ⌜ %s ⌝ }\n{\n%s}\n" % (
+    return "%s\n%s#[unsafe(no_mangle)]\n%s\n    ensures { %s }\n{\n%s}\n" % (
         "\n// ---- %s\n" % export.filled(heading) if heading else "", "// %s\n" % note if note else "", signature(export), export.contract, body,
     )
 
 
 def proof(export):
-    """The path of its proof, and the text where a template makes it."""
-    path = os.path.join(CRATES, export.face, "proofs", export.symbol, "Proof.antt")
+    """The files of its proof, where templates make them."""
+    place = os.path.join(CRATES, export.face, "proofs", export.symbol)
     shape = export.operation.get("proof")
     if shape == BY_HAND:
-        if not os.path.exists(path):
-            raise export.operation.fault("its proof is by hand, and there is no crates/%s/proofs/%s/Proof.antt" % (export.face, export.symbol))
+        if not any(os.path.exists(os.path.join(place, file)) for file in PROOF):
+            raise export.operation.fault("its proof is by hand, and crates/%s/proofs/%s has none of %s" % (export.face, export.symbol, ", ".join(PROOF)))
         return []
     if shape == NOT_NEEDED:
         return []
     folder = os.path.join(TEMPLATES, "promisebook_" + export.operation.family.name, "proofs")
     if export.kind and os.path.isdir(os.path.join(folder, export.kind.sign)):
         folder = os.path.join(folder, export.kind.sign)
-    shapes = templates(folder, export.kind.width)
-    if shape not in shapes:
-        place = os.path.relpath(folder, os.path.dirname(TEMPLATES))
-        raise export.operation.fault("there is no proof of the shape %s (%s.antt.in in generate/%s)" % (shape, shape, place))
-    named = {**export.kind.code_words(), "OPERATION": export.name, "DASHED": export.name.replace("_", "-")}
-    return [(path, filled(shapes[shape], named))]
+    named = {**export.kind.code_words(), "OPERATION": export.name}
+    made = [(os.path.join(place, file), filled(text, named)) for name, file, text in proofs(folder, export.kind.width) if name == shape]
+    if not made:
+        found = os.path.relpath(folder, os.path.dirname(TEMPLATES))
+        raise export.operation.fault("there is no proof of the shape %s (%s.answers.antt.in in generate/%s)" % (shape, shape, found))
+    return made
 
 
 # ---- the faces
@@ -128,7 +128,7 @@ def faces():
 
 def source(found):
     record, width = found[0].operation.family.record, None
-    text = "".join("// %s\n" % line for line in found[0].filled(record.get("opening")).split("\n")) + uses(found)
+    text = "".join("// %s\n" % line for line in found[0].filled(record.get("opening")).split("\n")) + "#![tactic(auto)]\n\n" + uses(found)
     for export in found:
         if record.get("title") and export.kind.width != width:
             width = export.kind.width

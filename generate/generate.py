@@ -32,7 +32,7 @@ import numbered_integers
 import rust_integers
 import selftest
 import spelled
-from templates import CRATES, read
+from templates import CRATES, PROOF, read
 
 CODE = [integers, digits, decimals, bench]
 FROM_THE_TABLE = [faces, numbered, numbered_integers, numbered_bytes, spelled, help_text, edges, rust_integers, ask_lines, ask_page, counts, bindings]
@@ -40,8 +40,8 @@ FROM_THE_TABLE = [faces, numbered, numbered_integers, numbered_bytes, spelled, h
 
 def stored(made):
     """The files of the folders that hold generated files alone."""
-    for folder in {os.path.dirname(path) for path in made if os.path.basename(path) == "Proof.antt"}:
-        for place, _, files in os.walk(os.path.dirname(folder)):
+    for folder in {os.path.dirname(os.path.dirname(path)) for path in made if os.path.basename(path) in PROOF}:
+        for place, _, files in os.walk(folder):
             yield from (os.path.join(place, file) for file in files)
     for folder in bindings.WHOLE:
         yield from glob.glob(os.path.join(folder, "*"))

@@ -4,27 +4,25 @@ A proof's template whose name has a word of ROWS is the proof of a function for 
 import os
 import re
 
-from templates import CRATES, SIGNS, TEMPLATES, WIDTHS, filled, function_name, templates, words
+from templates import CRATES, SIGNS, TEMPLATES, WIDTHS, filled, function_name, proofs, templates, words
 
 # Sums, differences and products; quotients, remainders and multiples; shifts; order, and of signed numbers the sign.
 PARTS = ["sums", "division", "bits", "order"]
 
 # What such a word stands for, and the words that go with it: how the laws call what the function makes, its operator on whole numbers, the side of a shift.
 ROWS = {
-    "SUM": [{"SUM": "add", "RESULT": "sum", "OPERATOR": "_+ℤ_"}, {"SUM": "sub", "RESULT": "difference", "OPERATOR": "_-ℤ_"}],
-    "OPERATION": [{"OPERATION": "add", "OPERATOR": "_+ℤ_"}, {"OPERATION": "sub", "OPERATOR": "_-ℤ_"}, {"OPERATION": "mul", "OPERATOR": "_*ℤ_"}],
+    "SUM": [{"SUM": "add", "RESULT": "sum", "OPERATOR": "◌+ℤ◌"}, {"SUM": "sub", "RESULT": "difference", "OPERATOR": "◌-ℤ◌"}],
+    "OPERATION": [{"OPERATION": "add", "OPERATOR": "◌+ℤ◌"}, {"OPERATION": "sub", "OPERATOR": "◌-ℤ◌"}, {"OPERATION": "mul", "OPERATOR": "◌*ℤ◌"}],
     "DIVISION": [{"DIVISION": "div", "RESULT": "quotient"}, {"DIVISION": "rem", "RESULT": "remainder"}],
     "SHIFT": [{"SHIFT": "shl", "SIDE": "left"}, {"SHIFT": "shr", "SIDE": "right"}],
 }
 
 
-def proofs(found, width):
-    """The proof of each function, from these templates."""
-    for template, proof in found.items():
-        rows = next((ROWS[word] for word in template.split("_") if word in ROWS), [{}])
-        for row in rows:
-            table = {**words(width), **row}
-            yield function_name(template, table), filled(proof, table)
+def functions(template, width):
+    """The functions that a proof's template is of, each with its words."""
+    for row in next((ROWS[word] for word in template.split("_") if word in ROWS), [{}]):
+        table = {**words(width), **row}
+        yield function_name(template, table), table
 
 
 def crate(sign, width, part):
@@ -39,8 +37,9 @@ def crate(sign, width, part):
         serving = " or ".join(variant for variant in width.variants() if variant)
         raise SystemExit("generate: templates/%s lacks %s for %d bits: the variant %s" % (os.path.basename(folder), ", ".join(missing), width.bits, serving))
     yield os.path.join(place, "src", "lib.rt"), filled(lib, words(width))
-    for function, proof in proofs(templates(os.path.join(folder, "proofs"), width), width):
-        yield os.path.join(place, "proofs", function, "Proof.antt"), proof
+    for template, file, proof in proofs(os.path.join(folder, "proofs"), width):
+        for function, table in functions(template, width):
+            yield os.path.join(place, "proofs", function, file), filled(proof, table)
 
 
 def files():

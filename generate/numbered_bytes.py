@@ -37,7 +37,7 @@ def of_group(group):
         *functions,
         *converters,
     ]
-    uses = "use numbered::Answer;\nuse numbered::Numbers;\n"
+    uses = "use numbered::{Answer, Numbers};\n"
     if group in BY_NAME:
         uses += "".join("use %s as %s;\n" % pair for pair in wrappers(BY_NAME[group]) if any(pair[1] + "::" in text for text in texts))
     about = {"bytes": "slices of bytes", "text": "text"}.get(group, group + " that take or answer bytes")

@@ -56,7 +56,7 @@ def of_kind(kind):
         "pub fn run(operation: u8, n: Numbers) -> Answer", "    handed(operation, %s)\n" % numbers, "Arguments are cut down to their kind's width.",
     )
     called = [pair for pair in wrappers(kind) if any(pair[1] + "::" in text for text in [run, *converters])]
-    uses = "use numbered::Answer;\nuse numbered::Numbers;\n" + "".join("use %s as %s;\n" % pair for pair in called)
+    uses = "#![tactic(auto)]\n\nuse numbered::{Answer, Numbers};\n" + "".join("use %s as %s;\n" % pair for pair in called)
     return "\n".join([ABOUT % kind.name + uses, outer, run, inner, *functions, *converters])
 
 

@@ -16,17 +16,17 @@ DAMAGES = [
     ("integers.txt", "sentence: The product `x * y`, {wrapped}.\n", "", "wrapping_mul: it lacks a sentence in plain words"),
     ("integers.txt", "sentence: The product `x * y`, {wrapped}.\n", "sentence: The product `x * z`, {wrapped}.\n", "its sentence names z"),
     ("integers.txt", "name: clone\n", "name: copy\n", "copy: it lacks an independent meaning"),
-    ("integers.txt", "contract: r ≡ lt [x] [y]\n", "contract: r ≡ less [x] [y]\n", "lt: its contract cites less, which no module"),
-    ("integers.txt", "contract: r ≡ lt [x] [y]\n", "contract: r ≡ lt [x] [z]\n", "lt: its contract has [z]"),
-    ("integers.txt", "home: sums\ncontract: [r] ≡ wrapping-mul", "contract: [r] ≡ wrapping-mul", "wrapping_mul: it lacks the crate where its code is"),
+    ("integers.txt", "contract: result ≡ lt [x] [y]\n", "contract: result ≡ less [x] [y]\n", "lt: its contract cites less, which no module"),
+    ("integers.txt", "contract: result ≡ lt [x] [y]\n", "contract: result ≡ lt [x] [z]\n", "lt: its contract has [z]"),
+    ("integers.txt", "home: sums\ncontract: [result] ≡ wrapping_mul", "contract: [result] ≡ wrapping_mul", "wrapping_mul: it lacks the crate where its code is"),
     ("integers.txt", "proof: copy\n", "proof: copied\n", "clone: there is no proof of the shape copied"),
     ("integers.txt", "cases: shifts left\n", "cases: 1 | 3\n", "wrapping_shl: a case has 1 arguments"),
     ("integers.txt", "cases: shifts left\n", "cases: shifts up\n", "wrapping_shl: a case has shifts"),
     ("integers.txt", "name: wrapping_mul\n", "name: wrapping_mul\nname: wrapping_product\n", "the field name stands twice"),
     ("integers.txt", "name: wrapping_mul\n", "names: wrapping_mul\n", "an operation without a name"),
     (
-        "integers.txt", "gives: sums::Checked\nhome: sums\ncontract: Answers (r .ok) [r .value] (checked-mul",
-        "gives: sums::Check\nhome: sums\ncontract: Answers (r .ok) (r .value) (checked-mul",
+        "integers.txt", "gives: sums::Checked\nhome: sums\ncontract: Answers result.ok [result.value] (checked_mul",
+        "gives: sums::Check\nhome: sums\ncontract: Answers result.ok result.value (checked_mul",
         "checked_mul: it gives",
     ),
     (
@@ -86,7 +86,7 @@ def said(texts):
 def said_of_template(name):
     """What the generator says of a proof's template of this name."""
     try:
-        list(integers.proofs({name: ""}, WIDTHS[0]))
+        list(integers.functions(name, WIDTHS[0]))
         return ""
     except SystemExit as fault:
         return str(fault)

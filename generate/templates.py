@@ -67,11 +67,15 @@ def words(width):
     }
 
 
-def templates(folder, width):
+# The files of a function's proof, each with the ending of its templates.
+PROOF = {"Invariants.antt": "invariants.antt", "Answers.antt": "answers.antt"}
+
+
+def templates(folder, width, ending="rt"):
     """The templates of a folder at a width: the text for each name, without variant and ending."""
     variants, chosen = width.variants(), {}
     for file in sorted(os.listdir(folder)):
-        match = re.fullmatch(r"(\w+)\.(?:(\w+)\.)?(?:rt|antt)\.in", file)
+        match = re.fullmatch(r"(\w+)\.(?:(\w+)\.)?%s\.in" % re.escape(ending), file)
         if not match or (match.group(2) or "") not in variants:
             continue
         name, closeness = match.group(1), variants.index(match.group(2) or "")
@@ -80,19 +84,31 @@ def templates(folder, width):
     return {name: read(path) for name, (_, path) in chosen.items()}
 
 
+def proofs(folder, width):
+    """The templates of proofs at a width: each one's name, the file that it makes, and its text. A function that has none is proved without."""
+    for file, ending in PROOF.items() if os.path.isdir(folder) else []:
+        for name, text in templates(folder, width, ending).items():
+            yield name, file, text
+
+
 def read(path):
     with open(path, encoding="utf-8") as file:
         return file.read()
 
 
 def filled(text, table):
-    """Each word by what stands for it: pb_UINT_eq and END_UINT hold words, and CHECKED_ADD_SIGNED, a name in capitals of its own, holds none."""
+    """Each word by what stands for it: pb_UINT_eq and END_UINT hold words, and CHECKED_ADD_SIGNED, a name in capitals of its own, holds none. A goal's name
+    may end in a word, as gtHALF."""
+
+    def part_filled(part):
+        lead, word = re.fullmatch(r"([a-z]*)(.*)", part).groups()
+        return lead + table[word] if word in table else part
 
     def replaced(match):
         parts = match.group().split("_")
         if match.group().isupper() and not all(part in table for part in parts):
             return match.group()
-        return "_".join(table.get(part, part) for part in parts)
+        return "_".join(map(part_filled, parts))
 
     return laid_out(re.sub(r"[A-Za-z0-9_]+", replaced, text))
 

@@ -11,7 +11,7 @@ use core::ops::Range;
 /// ```
 ///
 /// Cited by rows D65; clause vstd_slices/Promises.Len, theory_lists/Part.part; contract
-/// promisebook_slices::pb_bytes_len; law vstd_slices/Kept.len-kept; pinned by vstd_slices/Pinned.len-pinned;
+/// promisebook_slices::pb_bytes_len; law vstd_slices/Kept.len_kept; pinned by vstd_slices/Pinned.len_pinned;
 /// refused slices/len.counts_from_the_start, is_where_the_part_begins.
 #[inline]
 #[must_use]
@@ -30,7 +30,7 @@ pub fn len(s: &[u8]) -> usize {
 /// ```
 ///
 /// Cited by rows D65; clause vstd_slices/Promises.Len, theory_lists/Part.part; contract
-/// promisebook_slices::pb_bytes_len; law vstd_slices/Kept.len-kept; pinned by vstd_slices/Pinned.len-pinned;
+/// promisebook_slices::pb_bytes_len; law vstd_slices/Kept.len_kept; pinned by vstd_slices/Pinned.len_pinned;
 /// refused slices/len.counts_from_the_start, is_where_the_part_begins.
 #[inline]
 #[must_use]
@@ -48,8 +48,8 @@ pub fn len_in(s: &[u8], part: Range<usize>) -> Option<usize> {
 /// ```
 ///
 /// Cited by rows D66; clause vstd_slices/Promises.IsEmpty, theory_lists/Part.part; contract
-/// promisebook_slices::pb_bytes_is_empty; law vstd_slices/Kept.is-empty-kept; pinned by
-/// vstd_slices/Pinned.is-empty-pinned; refused slices/is_empty.only_at_the_start, other_way_round.
+/// promisebook_slices::pb_bytes_is_empty; law vstd_slices/Kept.is_empty_kept; pinned by
+/// vstd_slices/Pinned.is_empty_pinned; refused slices/is_empty.only_at_the_start, other_way_round.
 #[inline]
 #[must_use]
 pub fn is_empty(s: &[u8]) -> bool {
@@ -67,8 +67,8 @@ pub fn is_empty(s: &[u8]) -> bool {
 /// ```
 ///
 /// Cited by rows D66; clause vstd_slices/Promises.IsEmpty, theory_lists/Part.part; contract
-/// promisebook_slices::pb_bytes_is_empty; law vstd_slices/Kept.is-empty-kept; pinned by
-/// vstd_slices/Pinned.is-empty-pinned; refused slices/is_empty.only_at_the_start, other_way_round.
+/// promisebook_slices::pb_bytes_is_empty; law vstd_slices/Kept.is_empty_kept; pinned by
+/// vstd_slices/Pinned.is_empty_pinned; refused slices/is_empty.only_at_the_start, other_way_round.
 #[inline]
 #[must_use]
 pub fn is_empty_in(s: &[u8], part: Range<usize>) -> Option<bool> {
@@ -87,9 +87,9 @@ pub fn is_empty_in(s: &[u8], part: Range<usize>) -> Option<bool> {
 ///
 /// Cited by rows D1, D2, D3, D4, D6, D22, D24, D25, D69, D70; clause vstd_slices/Promises.Get,
 /// vstd_slices/Slices.Got, vstd_slices/Promises.SubRange, vstd_slices/Slices.Subrange; contract
-/// promisebook_slices::pb_bytes_get; law vstd_slices/Promised.get-promised, vstd_slices/Kept.get-kept,
-/// vstd_slices/Promised.sub-range-promised, vstd_slices/Kept.sub-range-kept; pinned by
-/// vstd_slices/Pinned.get-pinned, sub-range-pinned; refused slices/get.bound_from_the_start, one_past_the_end,
+/// promisebook_slices::pb_bytes_get; law vstd_slices/Promised.get_promised, vstd_slices/Kept.get_kept,
+/// vstd_slices/Promised.sub_range_promised, vstd_slices/Kept.sub_range_kept; pinned by
+/// vstd_slices/Pinned.get_pinned, sub_range_pinned; refused slices/get.bound_from_the_start, one_past_the_end,
 /// vstd_slices/get.last_element_refused.
 #[inline]
 #[must_use]
@@ -110,9 +110,9 @@ pub fn get(s: &[u8], i: usize) -> Option<u8> {
 ///
 /// Cited by rows D1, D2, D3, D4, D6, D22, D24, D25, D69, D70; clause vstd_slices/Promises.Get,
 /// vstd_slices/Slices.Got, vstd_slices/Promises.SubRange, vstd_slices/Slices.Subrange; contract
-/// promisebook_slices::pb_bytes_get; law vstd_slices/Promised.get-promised, vstd_slices/Kept.get-kept,
-/// vstd_slices/Promised.sub-range-promised, vstd_slices/Kept.sub-range-kept; pinned by
-/// vstd_slices/Pinned.get-pinned, sub-range-pinned; refused slices/get.bound_from_the_start, one_past_the_end,
+/// promisebook_slices::pb_bytes_get; law vstd_slices/Promised.get_promised, vstd_slices/Kept.get_kept,
+/// vstd_slices/Promised.sub_range_promised, vstd_slices/Kept.sub_range_kept; pinned by
+/// vstd_slices/Pinned.get_pinned, sub_range_pinned; refused slices/get.bound_from_the_start, one_past_the_end,
 /// vstd_slices/get.last_element_refused.
 #[inline]
 #[must_use]
@@ -131,8 +131,8 @@ pub fn get_in(s: &[u8], part: Range<usize>, i: usize) -> Option<u8> {
 ///
 /// Cited by rows D38, D39, D43; clause vstd_slices/Promises.First, vstd_slices/Slices.First,
 /// vstd_slices/Promises.Last, vstd_slices/Slices.Last; contract promisebook_slices::pb_bytes_first; law
-/// vstd_slices/Promised.first-promised, vstd_slices/Kept.first-kept, vstd_slices/Promised.last-promised,
-/// vstd_slices/Kept.last-kept; pinned by vstd_slices/Pinned.first-pinned, last-pinned; refused
+/// vstd_slices/Promised.first_promised, vstd_slices/Kept.first_kept, vstd_slices/Promised.last_promised,
+/// vstd_slices/Kept.last_kept; pinned by vstd_slices/Pinned.first_pinned, last_pinned; refused
 /// slices/first.is_the_byte_after, of_the_slice, promisebook_slices/first.last.
 #[inline]
 #[must_use]
@@ -152,8 +152,8 @@ pub fn first(s: &[u8]) -> Option<u8> {
 ///
 /// Cited by rows D38, D39, D43; clause vstd_slices/Promises.First, vstd_slices/Slices.First,
 /// vstd_slices/Promises.Last, vstd_slices/Slices.Last; contract promisebook_slices::pb_bytes_first; law
-/// vstd_slices/Promised.first-promised, vstd_slices/Kept.first-kept, vstd_slices/Promised.last-promised,
-/// vstd_slices/Kept.last-kept; pinned by vstd_slices/Pinned.first-pinned, last-pinned; refused
+/// vstd_slices/Promised.first_promised, vstd_slices/Kept.first_kept, vstd_slices/Promised.last_promised,
+/// vstd_slices/Kept.last_kept; pinned by vstd_slices/Pinned.first_pinned, last_pinned; refused
 /// slices/first.is_the_byte_after, of_the_slice, promisebook_slices/first.last.
 #[inline]
 #[must_use]
@@ -172,8 +172,8 @@ pub fn first_in(s: &[u8], part: Range<usize>) -> Option<u8> {
 ///
 /// Cited by rows D40, D41, D43; clause vstd_slices/Promises.Last, vstd_slices/Slices.Last,
 /// vstd_slices/Promises.First, vstd_slices/Slices.First; contract promisebook_slices::pb_bytes_last; law
-/// vstd_slices/Promised.last-promised, vstd_slices/Kept.last-kept, vstd_slices/Promised.first-promised,
-/// vstd_slices/Kept.first-kept; pinned by vstd_slices/Pinned.last-pinned, first-pinned; refused
+/// vstd_slices/Promised.last_promised, vstd_slices/Kept.last_kept, vstd_slices/Promised.first_promised,
+/// vstd_slices/Kept.first_kept; pinned by vstd_slices/Pinned.last_pinned, first_pinned; refused
 /// slices/last.is_before_the_part, is_the_one_before.
 #[inline]
 #[must_use]
@@ -193,8 +193,8 @@ pub fn last(s: &[u8]) -> Option<u8> {
 ///
 /// Cited by rows D40, D41, D43; clause vstd_slices/Promises.Last, vstd_slices/Slices.Last,
 /// vstd_slices/Promises.First, vstd_slices/Slices.First; contract promisebook_slices::pb_bytes_last; law
-/// vstd_slices/Promised.last-promised, vstd_slices/Kept.last-kept, vstd_slices/Promised.first-promised,
-/// vstd_slices/Kept.first-kept; pinned by vstd_slices/Pinned.last-pinned, first-pinned; refused
+/// vstd_slices/Promised.last_promised, vstd_slices/Kept.last_kept, vstd_slices/Promised.first_promised,
+/// vstd_slices/Kept.first_kept; pinned by vstd_slices/Pinned.last_pinned, first_pinned; refused
 /// slices/last.is_before_the_part, is_the_one_before.
 #[inline]
 #[must_use]
@@ -214,9 +214,9 @@ pub fn last_in(s: &[u8], part: Range<usize>) -> Option<u8> {
 ///
 /// Cited by rows D10, D11, D12, D13, D22, D25, D72, D73; clause vstd_slices/Promises.SubRange,
 /// vstd_slices/Slices.Subrange, vstd_slices/Promises.Get, vstd_slices/Slices.Got; contract
-/// promisebook_slices::pb_bytes_sub_range; law vstd_slices/Promised.sub-range-promised,
-/// vstd_slices/Kept.sub-range-kept, vstd_slices/Promised.get-promised, vstd_slices/Kept.get-kept; pinned by
-/// vstd_slices/Pinned.sub-range-pinned, get-pinned; refused slices_parts/sub_range.begins_from_the_start,
+/// promisebook_slices::pb_bytes_sub_range; law vstd_slices/Promised.sub_range_promised,
+/// vstd_slices/Kept.sub_range_kept, vstd_slices/Promised.get_promised, vstd_slices/Kept.get_kept; pinned by
+/// vstd_slices/Pinned.sub_range_pinned, get_pinned; refused slices_parts/sub_range.begins_from_the_start,
 /// may_leave_the_part, may_run_backwards, slices_parts/sub_slice.is_empty, up_to_the_end,
 /// vstd_slices/places.begin_left_open, end_left_open.
 #[inline]
@@ -238,9 +238,9 @@ pub fn sub_range(s: &[u8], range: Range<usize>) -> Option<&[u8]> {
 ///
 /// Cited by rows D10, D11, D12, D13, D22, D25, D72, D73; clause vstd_slices/Promises.SubRange,
 /// vstd_slices/Slices.Subrange, vstd_slices/Promises.Get, vstd_slices/Slices.Got; contract
-/// promisebook_slices::pb_bytes_sub_range; law vstd_slices/Promised.sub-range-promised,
-/// vstd_slices/Kept.sub-range-kept, vstd_slices/Promised.get-promised, vstd_slices/Kept.get-kept; pinned by
-/// vstd_slices/Pinned.sub-range-pinned, get-pinned; refused slices_parts/sub_range.begins_from_the_start,
+/// promisebook_slices::pb_bytes_sub_range; law vstd_slices/Promised.sub_range_promised,
+/// vstd_slices/Kept.sub_range_kept, vstd_slices/Promised.get_promised, vstd_slices/Kept.get_kept; pinned by
+/// vstd_slices/Pinned.sub_range_pinned, get_pinned; refused slices_parts/sub_range.begins_from_the_start,
 /// may_leave_the_part, may_run_backwards, slices_parts/sub_slice.is_empty, up_to_the_end,
 /// vstd_slices/places.begin_left_open, end_left_open.
 #[inline]
@@ -260,8 +260,8 @@ pub fn sub_range_in(s: &[u8], part: Range<usize>, range: Range<usize>) -> Option
 /// ```
 ///
 /// Cited by rows D45, D46, D47, D48, D50, D51; clause vstd_slices/Promises.SplitAt, vstd_slices/Slices.SplitAt;
-/// contract promisebook_slices::pb_bytes_split_at; law vstd_slices/Promised.split-at-promised,
-/// vstd_slices/Kept.split-at-kept; pinned by vstd_slices/Pinned.split-at-pinned; refused
+/// contract promisebook_slices::pb_bytes_split_at; law vstd_slices/Promised.split_at_promised,
+/// vstd_slices/Kept.split_at_kept; pinned by vstd_slices/Pinned.split_at_pinned; refused
 /// slices_parts/split_at.from_the_start, may_leave_the_part.
 #[inline]
 #[must_use]
@@ -281,8 +281,8 @@ pub fn split_at(s: &[u8], m: usize) -> Option<(&[u8], &[u8])> {
 /// ```
 ///
 /// Cited by rows D45, D46, D47, D48, D50, D51; clause vstd_slices/Promises.SplitAt, vstd_slices/Slices.SplitAt;
-/// contract promisebook_slices::pb_bytes_split_at; law vstd_slices/Promised.split-at-promised,
-/// vstd_slices/Kept.split-at-kept; pinned by vstd_slices/Pinned.split-at-pinned; refused
+/// contract promisebook_slices::pb_bytes_split_at; law vstd_slices/Promised.split_at_promised,
+/// vstd_slices/Kept.split_at_kept; pinned by vstd_slices/Pinned.split_at_pinned; refused
 /// slices_parts/split_at.from_the_start, may_leave_the_part.
 #[inline]
 #[must_use]
@@ -300,8 +300,8 @@ pub fn split_at_in(s: &[u8], part: Range<usize>, m: usize) -> Option<(Range<usiz
 /// ```
 ///
 /// Cited by rows D52, D53, D54, D55; clause vstd_slices/Promises.SplitFirst, vstd_slices/Slices.SplitFirst;
-/// contract promisebook_slices::pb_bytes_split_first; law vstd_slices/Promised.split-first-promised,
-/// vstd_slices/Kept.split-first-kept; pinned by vstd_slices/Pinned.split-first-pinned; refused
+/// contract promisebook_slices::pb_bytes_split_first; law vstd_slices/Promised.split_first_promised,
+/// vstd_slices/Kept.split_first_kept; pinned by vstd_slices/Pinned.split_first_pinned; refused
 /// slices/split_first.first_of_the_slice, skips_one, vstd_slices/split_first.rest_with_the_first.
 #[inline]
 #[must_use]
@@ -321,8 +321,8 @@ pub fn split_first(s: &[u8]) -> Option<(u8, &[u8])> {
 /// ```
 ///
 /// Cited by rows D52, D53, D54, D55; clause vstd_slices/Promises.SplitFirst, vstd_slices/Slices.SplitFirst;
-/// contract promisebook_slices::pb_bytes_split_first; law vstd_slices/Promised.split-first-promised,
-/// vstd_slices/Kept.split-first-kept; pinned by vstd_slices/Pinned.split-first-pinned; refused
+/// contract promisebook_slices::pb_bytes_split_first; law vstd_slices/Promised.split_first_promised,
+/// vstd_slices/Kept.split_first_kept; pinned by vstd_slices/Pinned.split_first_pinned; refused
 /// slices/split_first.first_of_the_slice, skips_one, vstd_slices/split_first.rest_with_the_first.
 #[inline]
 #[must_use]
@@ -343,8 +343,8 @@ pub fn split_first_in(s: &[u8], part: Range<usize>) -> Option<(u8, Range<usize>)
 /// ```
 ///
 /// Cited by rows D61, D63; clause vstd_slices/Promises.NextPiece, vstd_slices/Slices.Chunks; contract
-/// promisebook_slices::pb_bytes_next_piece; law vstd_slices/Promised.next-piece-promised,
-/// vstd_slices/Kept.next-piece-kept; pinned by vstd_slices/Pinned.next-piece-pinned; refused
+/// promisebook_slices::pb_bytes_next_piece; law vstd_slices/Promised.next_piece_promised,
+/// vstd_slices/Kept.next_piece_kept; pinned by vstd_slices/Pinned.next_piece_pinned; refused
 /// slices_parts/next_piece.none_of_one, one_more.
 #[inline]
 #[must_use]
@@ -367,8 +367,8 @@ pub fn next_piece(s: &[u8], n: usize) -> Option<(&[u8], &[u8])> {
 /// ```
 ///
 /// Cited by rows D61, D63; clause vstd_slices/Promises.NextPiece, vstd_slices/Slices.Chunks; contract
-/// promisebook_slices::pb_bytes_next_piece; law vstd_slices/Promised.next-piece-promised,
-/// vstd_slices/Kept.next-piece-kept; pinned by vstd_slices/Pinned.next-piece-pinned; refused
+/// promisebook_slices::pb_bytes_next_piece; law vstd_slices/Promised.next_piece_promised,
+/// vstd_slices/Kept.next_piece_kept; pinned by vstd_slices/Pinned.next_piece_pinned; refused
 /// slices_parts/next_piece.none_of_one, one_more.
 #[inline]
 #[must_use]
@@ -387,8 +387,8 @@ pub fn next_piece_in(s: &[u8], part: Range<usize>, n: usize) -> Option<(Range<us
 /// ```
 ///
 /// Cited by rows D18, D19; clause vstd_slices/Promises.StartsWith, vstd_slices/Slices.FalseWhereLonger,
-/// StartsWith; contract promisebook_slices::pb_bytes_starts_with; law vstd_slices/Promised.starts-with-promised,
-/// vstd_slices/Kept.starts-with-longer-kept, starts-with-kept; pinned by vstd_slices/Pinned.starts-with-pinned;
+/// StartsWith; contract promisebook_slices::pb_bytes_starts_with; law vstd_slices/Promised.starts_with_promised,
+/// vstd_slices/Kept.starts_with_longer_kept, starts_with_kept; pinned by vstd_slices/Pinned.starts_with_pinned;
 /// refused slices_compare/starts_with.after_the_front, whole_part.
 #[inline]
 #[must_use]
@@ -407,8 +407,8 @@ pub fn starts_with(s: &[u8], needle: &[u8]) -> bool {
 /// ```
 ///
 /// Cited by rows D18, D19; clause vstd_slices/Promises.StartsWith, vstd_slices/Slices.FalseWhereLonger,
-/// StartsWith; contract promisebook_slices::pb_bytes_starts_with; law vstd_slices/Promised.starts-with-promised,
-/// vstd_slices/Kept.starts-with-longer-kept, starts-with-kept; pinned by vstd_slices/Pinned.starts-with-pinned;
+/// StartsWith; contract promisebook_slices::pb_bytes_starts_with; law vstd_slices/Promised.starts_with_promised,
+/// vstd_slices/Kept.starts_with_longer_kept, starts_with_kept; pinned by vstd_slices/Pinned.starts_with_pinned;
 /// refused slices_compare/starts_with.after_the_front, whole_part.
 #[inline]
 #[must_use]
@@ -427,8 +427,8 @@ pub fn starts_with_in(s: &[u8], part: Range<usize>, needle: &[u8]) -> Option<boo
 /// ```
 ///
 /// Cited by rows D20, D21; clause vstd_slices/Promises.EndsWith, vstd_slices/Slices.FalseWhereLonger, EndsWith;
-/// contract promisebook_slices::pb_bytes_ends_with; law vstd_slices/Promised.ends-with-promised,
-/// vstd_slices/Kept.ends-with-longer-kept, ends-with-kept; pinned by vstd_slices/Pinned.ends-with-pinned; refused
+/// contract promisebook_slices::pb_bytes_ends_with; law vstd_slices/Promised.ends_with_promised,
+/// vstd_slices/Kept.ends_with_longer_kept, ends_with_kept; pinned by vstd_slices/Pinned.ends_with_pinned; refused
 /// slices_compare/ends_with.after_the_front, whole_part, vstd_slices/ends_with.compared_from_the_front.
 #[inline]
 #[must_use]
@@ -447,8 +447,8 @@ pub fn ends_with(s: &[u8], needle: &[u8]) -> bool {
 /// ```
 ///
 /// Cited by rows D20, D21; clause vstd_slices/Promises.EndsWith, vstd_slices/Slices.FalseWhereLonger, EndsWith;
-/// contract promisebook_slices::pb_bytes_ends_with; law vstd_slices/Promised.ends-with-promised,
-/// vstd_slices/Kept.ends-with-longer-kept, ends-with-kept; pinned by vstd_slices/Pinned.ends-with-pinned; refused
+/// contract promisebook_slices::pb_bytes_ends_with; law vstd_slices/Promised.ends_with_promised,
+/// vstd_slices/Kept.ends_with_longer_kept, ends_with_kept; pinned by vstd_slices/Pinned.ends_with_pinned; refused
 /// slices_compare/ends_with.after_the_front, whole_part, vstd_slices/ends_with.compared_from_the_front.
 #[inline]
 #[must_use]
@@ -467,8 +467,8 @@ pub fn ends_with_in(s: &[u8], part: Range<usize>, needle: &[u8]) -> Option<bool>
 /// ```
 ///
 /// Cited by rows D33; clause vstd_slices/Promises.Contains, theory_lists/Part.Has; contract
-/// promisebook_slices::pb_bytes_contains; law vstd_slices/Kept.contains-kept; pinned by
-/// vstd_slices/Pinned.contains-pinned; refused slices_compare/contains.after_the_part, before_the_part,
+/// promisebook_slices::pb_bytes_contains; law vstd_slices/Kept.contains_kept; pinned by
+/// vstd_slices/Pinned.contains_pinned; refused slices_compare/contains.after_the_part, before_the_part,
 /// vstd_slices/contains.silent_where_refused, slices_whole/has.always, every_byte, only_in_the_first_block.
 #[inline]
 #[must_use]
@@ -487,8 +487,8 @@ pub fn contains(s: &[u8], v: u8) -> bool {
 /// ```
 ///
 /// Cited by rows D33; clause vstd_slices/Promises.Contains, theory_lists/Part.Has; contract
-/// promisebook_slices::pb_bytes_contains; law vstd_slices/Kept.contains-kept; pinned by
-/// vstd_slices/Pinned.contains-pinned; refused slices_compare/contains.after_the_part, before_the_part,
+/// promisebook_slices::pb_bytes_contains; law vstd_slices/Kept.contains_kept; pinned by
+/// vstd_slices/Pinned.contains_pinned; refused slices_compare/contains.after_the_part, before_the_part,
 /// vstd_slices/contains.silent_where_refused, slices_whole/has.always, every_byte, only_in_the_first_block.
 #[inline]
 #[must_use]
@@ -507,8 +507,8 @@ pub fn contains_in(s: &[u8], part: Range<usize>, v: u8) -> Option<bool> {
 /// ```
 ///
 /// Cited by rows D32; clause vstd_slices/Promises.Equal, vstd_slices/Slices.SameElements; contract
-/// promisebook_slices::pb_bytes_equal; law vstd_slices/Promised.equal-promised, vstd_slices/Kept.equal-kept;
-/// pinned by vstd_slices/Pinned.equal-pinned; refused slices_compare/equal.up_to_the_end, with_itself,
+/// promisebook_slices::pb_bytes_equal; law vstd_slices/Promised.equal_promised, vstd_slices/Kept.equal_kept;
+/// pinned by vstd_slices/Pinned.equal_pinned; refused slices_compare/equal.up_to_the_end, with_itself,
 /// slices_whole/same.any_byte_alike, blocks_unread, last_block_unread, never.
 #[inline]
 #[must_use]
@@ -527,8 +527,8 @@ pub fn equal(s: &[u8], other: &[u8]) -> bool {
 /// ```
 ///
 /// Cited by rows D32; clause vstd_slices/Promises.Equal, vstd_slices/Slices.SameElements; contract
-/// promisebook_slices::pb_bytes_equal; law vstd_slices/Promised.equal-promised, vstd_slices/Kept.equal-kept;
-/// pinned by vstd_slices/Pinned.equal-pinned; refused slices_compare/equal.up_to_the_end, with_itself,
+/// promisebook_slices::pb_bytes_equal; law vstd_slices/Promised.equal_promised, vstd_slices/Kept.equal_kept;
+/// pinned by vstd_slices/Pinned.equal_pinned; refused slices_compare/equal.up_to_the_end, with_itself,
 /// slices_whole/same.any_byte_alike, blocks_unread, last_block_unread, never.
 #[inline]
 #[must_use]
@@ -552,9 +552,9 @@ pub fn equal_in(s: &[u8], part: Range<usize>, other: &[u8]) -> Option<bool> {
 ///
 /// Cited by rows D5, D7, D8, D9, D23, D26, D27, D42, D44, D56, D67, D68; clause vstd_slices/Promises.Set,
 /// vstd_slices/Slices.Updated, vstd_slices/Promises.CopyFrom, vstd_slices/Slices.PartReplaced; contract
-/// promisebook_slices::pb_bytes_set; law vstd_slices/Promised.set-promised, vstd_slices/Kept.set-kept,
-/// vstd_slices/Promised.copy-from-promised, vstd_slices/Kept.copy-from-kept; pinned by
-/// vstd_slices/Pinned.set-pinned, copy-from-pinned; refused slices_mut/set.last_instead, one_past_the_end,
+/// promisebook_slices::pb_bytes_set; law vstd_slices/Promised.set_promised, vstd_slices/Kept.set_kept,
+/// vstd_slices/Promised.copy_from_promised, vstd_slices/Kept.copy_from_kept; pinned by
+/// vstd_slices/Pinned.set_pinned, copy_from_pinned; refused slices_mut/set.last_instead, one_past_the_end,
 /// vstd_slices/set.refusal_leaves_anything.
 #[inline]
 #[must_use]
@@ -577,9 +577,9 @@ pub fn set(s: &mut [u8], i: usize, v: u8) -> Option<()> {
 ///
 /// Cited by rows D5, D7, D8, D9, D23, D26, D27, D42, D44, D56, D67, D68; clause vstd_slices/Promises.Set,
 /// vstd_slices/Slices.Updated, vstd_slices/Promises.CopyFrom, vstd_slices/Slices.PartReplaced; contract
-/// promisebook_slices::pb_bytes_set; law vstd_slices/Promised.set-promised, vstd_slices/Kept.set-kept,
-/// vstd_slices/Promised.copy-from-promised, vstd_slices/Kept.copy-from-kept; pinned by
-/// vstd_slices/Pinned.set-pinned, copy-from-pinned; refused slices_mut/set.last_instead, one_past_the_end,
+/// promisebook_slices::pb_bytes_set; law vstd_slices/Promised.set_promised, vstd_slices/Kept.set_kept,
+/// vstd_slices/Promised.copy_from_promised, vstd_slices/Kept.copy_from_kept; pinned by
+/// vstd_slices/Pinned.set_pinned, copy_from_pinned; refused slices_mut/set.last_instead, one_past_the_end,
 /// vstd_slices/set.refusal_leaves_anything.
 #[inline]
 #[must_use]
@@ -598,9 +598,9 @@ pub fn set_in(s: &mut [u8], part: Range<usize>, i: usize, v: u8) -> Option<()> {
 ///
 /// Cited by rows D14, D15, D16, D34; clause vstd_slices/Promises.CopyFrom, Reverse, CopyWithin,
 /// vstd_slices/Slices.PartReplaced, Reversed; contract promisebook_slices::pb_bytes_reverse; law
-/// vstd_slices/Promised.copy-from-promised, reverse-promised, copy-within-promised,
-/// vstd_slices/Kept.copy-from-kept, reverse-kept; pinned by vstd_slices/Pinned.copy-from-pinned, reverse-pinned,
-/// copy-within-pinned; refused slices_reverse/reverse.back_block_twice, blocks_overlap, from_the_start,
+/// vstd_slices/Promised.copy_from_promised, reverse_promised, copy_within_promised,
+/// vstd_slices/Kept.copy_from_kept, reverse_kept; pinned by vstd_slices/Pinned.copy_from_pinned, reverse_pinned,
+/// copy_within_pinned; refused slices_reverse/reverse.back_block_twice, blocks_overlap, from_the_start,
 /// one_byte_everywhere, two_left_as_they_are.
 #[inline]
 pub fn reverse(s: &mut [u8]) {
@@ -621,9 +621,9 @@ pub fn reverse(s: &mut [u8]) {
 ///
 /// Cited by rows D14, D15, D16, D34; clause vstd_slices/Promises.CopyFrom, Reverse, CopyWithin,
 /// vstd_slices/Slices.PartReplaced, Reversed; contract promisebook_slices::pb_bytes_reverse; law
-/// vstd_slices/Promised.copy-from-promised, reverse-promised, copy-within-promised,
-/// vstd_slices/Kept.copy-from-kept, reverse-kept; pinned by vstd_slices/Pinned.copy-from-pinned, reverse-pinned,
-/// copy-within-pinned; refused slices_reverse/reverse.back_block_twice, blocks_overlap, from_the_start,
+/// vstd_slices/Promised.copy_from_promised, reverse_promised, copy_within_promised,
+/// vstd_slices/Kept.copy_from_kept, reverse_kept; pinned by vstd_slices/Pinned.copy_from_pinned, reverse_pinned,
+/// copy_within_pinned; refused slices_reverse/reverse.back_block_twice, blocks_overlap, from_the_start,
 /// one_byte_everywhere, two_left_as_they_are.
 #[inline]
 #[must_use]
@@ -646,9 +646,9 @@ pub fn reverse_in(s: &mut [u8], part: Range<usize>) -> Option<()> {
 /// Cited by rows D14, D15, D16, D17, D23, D26, D27, D49, D56, D57, D58; clause vstd_slices/Promises.CopyFrom,
 /// Reverse, CopyWithin, vstd_slices/Slices.PartReplaced, Reversed, vstd_slices/Promises.Set,
 /// vstd_slices/Slices.Updated; contract promisebook_slices::pb_bytes_copy_from; law
-/// vstd_slices/Promised.copy-from-promised, reverse-promised, copy-within-promised,
-/// vstd_slices/Kept.copy-from-kept, reverse-kept, vstd_slices/Promised.set-promised, vstd_slices/Kept.set-kept;
-/// pinned by vstd_slices/Pinned.copy-from-pinned, reverse-pinned, copy-within-pinned, set-pinned; refused
+/// vstd_slices/Promised.copy_from_promised, reverse_promised, copy_within_promised,
+/// vstd_slices/Kept.copy_from_kept, reverse_kept, vstd_slices/Promised.set_promised, vstd_slices/Kept.set_kept;
+/// pinned by vstd_slices/Pinned.copy_from_pinned, reverse_pinned, copy_within_pinned, set_pinned; refused
 /// slices_copy/copy_from.blocks_in_one_place, first_block_and_last, longer_is_cut, to_the_start,
 /// vstd_slices/part_replaced.byte_behind_left_open, promisebook_slices/copy_from.before_and_after.
 #[inline]
@@ -673,9 +673,9 @@ pub fn copy_from(s: &mut [u8], other: &[u8]) -> Option<()> {
 /// Cited by rows D14, D15, D16, D17, D23, D26, D27, D49, D56, D57, D58; clause vstd_slices/Promises.CopyFrom,
 /// Reverse, CopyWithin, vstd_slices/Slices.PartReplaced, Reversed, vstd_slices/Promises.Set,
 /// vstd_slices/Slices.Updated; contract promisebook_slices::pb_bytes_copy_from; law
-/// vstd_slices/Promised.copy-from-promised, reverse-promised, copy-within-promised,
-/// vstd_slices/Kept.copy-from-kept, reverse-kept, vstd_slices/Promised.set-promised, vstd_slices/Kept.set-kept;
-/// pinned by vstd_slices/Pinned.copy-from-pinned, reverse-pinned, copy-within-pinned, set-pinned; refused
+/// vstd_slices/Promised.copy_from_promised, reverse_promised, copy_within_promised,
+/// vstd_slices/Kept.copy_from_kept, reverse_kept, vstd_slices/Promised.set_promised, vstd_slices/Kept.set_kept;
+/// pinned by vstd_slices/Pinned.copy_from_pinned, reverse_pinned, copy_within_pinned, set_pinned; refused
 /// slices_copy/copy_from.blocks_in_one_place, first_block_and_last, longer_is_cut, to_the_start,
 /// vstd_slices/part_replaced.byte_behind_left_open, promisebook_slices/copy_from.before_and_after.
 #[inline]
@@ -700,9 +700,9 @@ pub fn copy_from_in(s: &mut [u8], part: Range<usize>, other: &[u8]) -> Option<()
 ///
 /// Cited by rows D14, D16, D59, D60; clause vstd_slices/Promises.CopyFrom, Reverse, CopyWithin,
 /// vstd_slices/Slices.CopiedWithin; contract promisebook_slices::pb_bytes_copy_within; law
-/// vstd_slices/Promised.copy-from-promised, reverse-promised, copy-within-promised,
-/// vstd_slices/Kept.copy-within-kept; pinned by vstd_slices/Pinned.copy-from-pinned, reverse-pinned,
-/// copy-within-pinned; refused slices_move/copy_within.a_byte_further, a_byte_nearer, first_block_last,
+/// vstd_slices/Promised.copy_from_promised, reverse_promised, copy_within_promised,
+/// vstd_slices/Kept.copy_within_kept; pinned by vstd_slices/Pinned.copy_from_pinned, reverse_pinned,
+/// copy_within_pinned; refused slices_move/copy_within.a_byte_further, a_byte_nearer, first_block_last,
 /// front_loop_when_behind, front_when_behind, not_up_to_the_end, past_the_end, where_it_was,
 /// vstd_slices/copy_within.reads_what_it_wrote.
 #[inline]
@@ -730,9 +730,9 @@ pub fn copy_within(s: &mut [u8], range: Range<usize>, at: usize) -> Option<()> {
 ///
 /// Cited by rows D14, D16, D59, D60; clause vstd_slices/Promises.CopyFrom, Reverse, CopyWithin,
 /// vstd_slices/Slices.CopiedWithin; contract promisebook_slices::pb_bytes_copy_within; law
-/// vstd_slices/Promised.copy-from-promised, reverse-promised, copy-within-promised,
-/// vstd_slices/Kept.copy-within-kept; pinned by vstd_slices/Pinned.copy-from-pinned, reverse-pinned,
-/// copy-within-pinned; refused slices_move/copy_within.a_byte_further, a_byte_nearer, first_block_last,
+/// vstd_slices/Promised.copy_from_promised, reverse_promised, copy_within_promised,
+/// vstd_slices/Kept.copy_within_kept; pinned by vstd_slices/Pinned.copy_from_pinned, reverse_pinned,
+/// copy_within_pinned; refused slices_move/copy_within.a_byte_further, a_byte_nearer, first_block_last,
 /// front_loop_when_behind, front_when_behind, not_up_to_the_end, past_the_end, where_it_was,
 /// vstd_slices/copy_within.reads_what_it_wrote.
 #[inline]

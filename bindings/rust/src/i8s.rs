@@ -14,8 +14,8 @@ use core::ops::Range;
 /// assert_eq!(i8s::wrapping_add(-100, 100), 0);
 /// ```
 ///
-/// Cited by rows A20; clause vstd_integers/Signed.wrapping-add; contract promisebook_i8::pb_i8_wrapping_add; law
-/// vstd_integers/Signed.wrapping-add-kept; pinned by vstd_integers/Pinned.pinned-equation; refused
+/// Cited by rows A20; clause vstd_integers/Signed.wrapping_add; contract promisebook_i8::pb_i8_wrapping_add; law
+/// vstd_integers/Signed.wrapping_add_kept; pinned by vstd_integers/Pinned.pinned_equation; refused
 /// signed8_sums/wrapping_add.complement, twice.
 #[inline]
 #[must_use]
@@ -31,9 +31,9 @@ pub fn wrapping_add(x: i8, y: i8) -> i8 {
 /// assert_eq!(i8s::wrapping_add_unsigned(100, 200), 44);
 /// ```
 ///
-/// Cited by rows A21; clause vstd_integers/Signed.wrapping-add-unsigned; contract
-/// promisebook_i8::pb_i8_wrapping_add_unsigned; law vstd_integers/Signed.wrapping-add-unsigned-kept; pinned by
-/// vstd_integers/Pinned.pinned-equation; refused signed8_sums/wrapping_add_unsigned.complement, subtracts.
+/// Cited by rows A21; clause vstd_integers/Signed.wrapping_add_unsigned; contract
+/// promisebook_i8::pb_i8_wrapping_add_unsigned; law vstd_integers/Signed.wrapping_add_unsigned_kept; pinned by
+/// vstd_integers/Pinned.pinned_equation; refused signed8_sums/wrapping_add_unsigned.complement, subtracts.
 #[inline]
 #[must_use]
 pub fn wrapping_add_unsigned(x: i8, y: u8) -> i8 {
@@ -48,8 +48,8 @@ pub fn wrapping_add_unsigned(x: i8, y: u8) -> i8 {
 /// assert_eq!(i8s::wrapping_sub(-127, 1), -128);
 /// ```
 ///
-/// Cited by rows A22; clause vstd_integers/Signed.wrapping-sub; contract promisebook_i8::pb_i8_wrapping_sub; law
-/// vstd_integers/Signed.wrapping-sub-kept; pinned by vstd_integers/Pinned.pinned-equation; refused
+/// Cited by rows A22; clause vstd_integers/Signed.wrapping_sub; contract promisebook_i8::pb_i8_wrapping_sub; law
+/// vstd_integers/Signed.wrapping_sub_kept; pinned by vstd_integers/Pinned.pinned_equation; refused
 /// signed8_sums/wrapping_sub.nothing_left, other_way_round, vstd_integers/wrapping_sub.passes_the_top.
 #[inline]
 #[must_use]
@@ -65,8 +65,8 @@ pub fn wrapping_sub(x: i8, y: i8) -> i8 {
 /// assert_eq!(i8s::wrapping_mul(-127, -1), 127);
 /// ```
 ///
-/// Cited by rows A23; clause vstd_integers/Signed.wrapping-mul; contract promisebook_i8::pb_i8_wrapping_mul; law
-/// vstd_integers/Signed.wrapping-mul-kept; pinned by vstd_integers/Pinned.pinned-equation; refused
+/// Cited by rows A23; clause vstd_integers/Signed.wrapping_mul; contract promisebook_i8::pb_i8_wrapping_mul; law
+/// vstd_integers/Signed.wrapping_mul_kept; pinned by vstd_integers/Pinned.pinned_equation; refused
 /// signed8_sums/wrapping_mul.complement, square.
 #[inline]
 #[must_use]
@@ -82,8 +82,8 @@ pub fn wrapping_mul(x: i8, y: i8) -> i8 {
 /// assert_eq!(i8s::wrapping_shl(3, 7), -128);
 /// ```
 ///
-/// Cited by rows A24; clause vstd_integers/Signed.wrapping-shl; contract promisebook_i8::pb_i8_wrapping_shl; law
-/// vstd_integers/Signed.wrapping-shl-kept; pinned by vstd_integers/Pinned.pinned-equation; refused
+/// Cited by rows A24; clause vstd_integers/Signed.wrapping_shl; contract promisebook_i8::pb_i8_wrapping_shl; law
+/// vstd_integers/Signed.wrapping_shl_kept; pinned by vstd_integers/Pinned.pinned_equation; refused
 /// signed8_bits/wrapping_shl.by_the_width_is_0, modulo_7.
 #[inline]
 #[must_use]
@@ -100,8 +100,8 @@ pub fn wrapping_shl(x: i8, rhs: u32) -> i8 {
 /// assert_eq!(i8s::wrapping_shr(-7, 9), -4);
 /// ```
 ///
-/// Cited by rows A25; clause vstd_integers/Signed.wrapping-shr; contract promisebook_i8::pb_i8_wrapping_shr; law
-/// vstd_integers/Signed.wrapping-shr-kept; pinned by vstd_integers/Pinned.pinned-equation; refused
+/// Cited by rows A25; clause vstd_integers/Signed.wrapping_shr; contract promisebook_i8::pb_i8_wrapping_shr; law
+/// vstd_integers/Signed.wrapping_shr_kept; pinned by vstd_integers/Pinned.pinned_equation; refused
 /// signed8_bits/wrapping_shr.modulo_7, towards_zero.
 #[inline]
 #[must_use]
@@ -117,8 +117,8 @@ pub fn wrapping_shr(x: i8, rhs: u32) -> i8 {
 /// assert_eq!(i8s::checked_add(-100, 100), Some(0));
 /// ```
 ///
-/// Cited by rows A26; clause vstd_integers/Signed.checked-add; contract promisebook_i8::pb_i8_checked_add; law
-/// vstd_integers/Signed.checked-add-kept; pinned by vstd_integers/Pinned.pinned-option; refused
+/// Cited by rows A26; clause vstd_integers/Signed.checked_add; contract promisebook_i8::pb_i8_checked_add; law
+/// vstd_integers/Signed.checked_add_kept; pinned by vstd_integers/Pinned.pinned_option; refused
 /// signed8_sums/checked_add.first_summand, largest_refused, signed64_sums/checked_add.other_signs_refused.
 #[inline]
 #[must_use]
@@ -135,9 +135,9 @@ pub fn checked_add(x: i8, y: i8) -> Option<i8> {
 /// assert_eq!(i8s::checked_add_unsigned(100, 200), None);
 /// ```
 ///
-/// Cited by rows A27; clause vstd_integers/Signed.checked-add-unsigned; contract
-/// promisebook_i8::pb_i8_checked_add_unsigned; law vstd_integers/Signed.checked-add-unsigned-kept; pinned by
-/// vstd_integers/Pinned.pinned-option; refused signed8_sums/checked_add_unsigned.first_summand, rise_refused.
+/// Cited by rows A27; clause vstd_integers/Signed.checked_add_unsigned; contract
+/// promisebook_i8::pb_i8_checked_add_unsigned; law vstd_integers/Signed.checked_add_unsigned_kept; pinned by
+/// vstd_integers/Pinned.pinned_option; refused signed8_sums/checked_add_unsigned.first_summand, rise_refused.
 #[inline]
 #[must_use]
 pub fn checked_add_unsigned(x: i8, y: u8) -> Option<i8> {
@@ -153,8 +153,8 @@ pub fn checked_add_unsigned(x: i8, y: u8) -> Option<i8> {
 /// assert_eq!(i8s::checked_sub(-127, 1), Some(-128));
 /// ```
 ///
-/// Cited by rows A28; clause vstd_integers/Signed.checked-sub; contract promisebook_i8::pb_i8_checked_sub; law
-/// vstd_integers/Signed.checked-sub-kept; pinned by vstd_integers/Pinned.pinned-option; refused
+/// Cited by rows A28; clause vstd_integers/Signed.checked_sub; contract promisebook_i8::pb_i8_checked_sub; law
+/// vstd_integers/Signed.checked_sub_kept; pinned by vstd_integers/Pinned.pinned_option; refused
 /// signed8_sums/checked_sub.least_refused, other_way_round, signed64_sums/checked_sub.other_signs_refused.
 #[inline]
 #[must_use]
@@ -171,9 +171,9 @@ pub fn checked_sub(x: i8, y: i8) -> Option<i8> {
 /// assert_eq!(i8s::checked_sub_unsigned(-100, 200), None);
 /// ```
 ///
-/// Cited by rows A29; clause vstd_integers/Signed.checked-sub-unsigned; contract
-/// promisebook_i8::pb_i8_checked_sub_unsigned; law vstd_integers/Signed.checked-sub-unsigned-kept; pinned by
-/// vstd_integers/Pinned.pinned-option; refused signed8_sums/checked_sub_unsigned.fall_refused, first_number.
+/// Cited by rows A29; clause vstd_integers/Signed.checked_sub_unsigned; contract
+/// promisebook_i8::pb_i8_checked_sub_unsigned; law vstd_integers/Signed.checked_sub_unsigned_kept; pinned by
+/// vstd_integers/Pinned.pinned_option; refused signed8_sums/checked_sub_unsigned.fall_refused, first_number.
 #[inline]
 #[must_use]
 pub fn checked_sub_unsigned(x: i8, y: u8) -> Option<i8> {
@@ -189,8 +189,8 @@ pub fn checked_sub_unsigned(x: i8, y: u8) -> Option<i8> {
 /// assert_eq!(i8s::checked_mul(-127, -1), Some(127));
 /// ```
 ///
-/// Cited by rows A30; clause vstd_integers/Signed.checked-mul; contract promisebook_i8::pb_i8_checked_mul; law
-/// vstd_integers/Signed.checked-mul-kept; pinned by vstd_integers/Pinned.pinned-option; refused
+/// Cited by rows A30; clause vstd_integers/Signed.checked_mul; contract promisebook_i8::pb_i8_checked_mul; law
+/// vstd_integers/Signed.checked_mul_kept; pinned by vstd_integers/Pinned.pinned_option; refused
 /// signed8_sums/checked_mul.larger_quotient_taken, square.
 #[inline]
 #[must_use]
@@ -212,8 +212,8 @@ pub fn checked_mul(x: i8, y: i8) -> Option<i8> {
 /// assert_eq!(i8s::checked_div(7, 0), None);
 /// ```
 ///
-/// Cited by rows A31; clause vstd_integers/Signed.checked-div; contract promisebook_i8::pb_i8_checked_div; law
-/// vstd_integers/Signed.checked-div-kept; pinned by vstd_integers/Pinned.pinned-option; refused
+/// Cited by rows A31; clause vstd_integers/Signed.checked_div; contract promisebook_i8::pb_i8_checked_div; law
+/// vstd_integers/Signed.checked_div_kept; pinned by vstd_integers/Pinned.pinned_option; refused
 /// signed8_division/checked_div.least_by_minus_one_wraps, other_dividend, vstd_integers/checked_div.euclidean,
 /// vstd_integers/divided_unless.least_by_minus_one_not_refused.
 #[inline]
@@ -236,9 +236,9 @@ pub fn checked_div(x: i8, y: i8) -> Option<i8> {
 /// assert_eq!(i8s::checked_div_euclid(7, 0), None);
 /// ```
 ///
-/// Cited by rows A32; clause vstd_integers/Signed.checked-div-euclid; contract
-/// promisebook_i8::pb_i8_checked_div_euclid; law vstd_integers/Signed.checked-div-euclid-kept; pinned by
-/// vstd_integers/Pinned.pinned-option; refused signed8_division/checked_div_euclid.not_mended, towards_zero,
+/// Cited by rows A32; clause vstd_integers/Signed.checked_div_euclid; contract
+/// promisebook_i8::pb_i8_checked_div_euclid; law vstd_integers/Signed.checked_div_euclid_kept; pinned by
+/// vstd_integers/Pinned.pinned_option; refused signed8_division/checked_div_euclid.not_mended, towards_zero,
 /// promisebook_i8/checked_div_euclid.towards_zero.
 #[inline]
 #[must_use]
@@ -260,8 +260,8 @@ pub fn checked_div_euclid(x: i8, y: i8) -> Option<i8> {
 /// assert_eq!(i8s::checked_rem(7, 0), None);
 /// ```
 ///
-/// Cited by rows A33; clause vstd_integers/Signed.checked-rem; contract promisebook_i8::pb_i8_checked_rem; law
-/// vstd_integers/Signed.checked-rem-kept; pinned by vstd_integers/Pinned.pinned-option; refused
+/// Cited by rows A33; clause vstd_integers/Signed.checked_rem; contract promisebook_i8::pb_i8_checked_rem; law
+/// vstd_integers/Signed.checked_rem_kept; pinned by vstd_integers/Pinned.pinned_option; refused
 /// signed8_division/checked_rem.euclidean, least_by_minus_one_is_0, promisebook_i8/checked_rem.euclidean.
 #[inline]
 #[must_use]
@@ -283,9 +283,9 @@ pub fn checked_rem(x: i8, y: i8) -> Option<i8> {
 /// assert_eq!(i8s::checked_rem_euclid(7, 0), None);
 /// ```
 ///
-/// Cited by rows A34; clause vstd_integers/Signed.checked-rem-euclid; contract
-/// promisebook_i8::pb_i8_checked_rem_euclid; law vstd_integers/Signed.checked-rem-euclid-kept; pinned by
-/// vstd_integers/Pinned.pinned-option; refused signed8_division/checked_rem_euclid.absolute_value, not_mended.
+/// Cited by rows A34; clause vstd_integers/Signed.checked_rem_euclid; contract
+/// promisebook_i8::pb_i8_checked_rem_euclid; law vstd_integers/Signed.checked_rem_euclid_kept; pinned by
+/// vstd_integers/Pinned.pinned_option; refused signed8_division/checked_rem_euclid.absolute_value, not_mended.
 #[inline]
 #[must_use]
 pub fn checked_rem_euclid(x: i8, y: i8) -> Option<i8> {
@@ -302,7 +302,7 @@ pub fn checked_rem_euclid(x: i8, y: i8) -> Option<i8> {
 /// ```
 ///
 /// Cited by rows A35; clause vstd_integers/Compare.clone; contract promisebook_i8::pb_i8_clone; law
-/// vstd_integers/Compare.clone-kept; pinned by vstd_integers/Pinned.pinned-unsigned, pinned-equation; refused
+/// vstd_integers/Compare.clone_kept; pinned by vstd_integers/Pinned.pinned_unsigned, pinned_equation; refused
 /// promisebook_u8/clone.always_0, promisebook_i8/clone.always_0.
 #[inline]
 #[must_use]
@@ -320,7 +320,7 @@ pub fn clone(x: i8) -> i8 {
 /// ```
 ///
 /// Cited by rows A36; clause vstd_integers/Compare.eq; contract promisebook_i8::pb_i8_eq; law
-/// vstd_integers/Compare.eq-kept; pinned by vstd_integers/Pinned.pinned-equation; refused
+/// vstd_integers/Compare.eq_kept; pinned by vstd_integers/Pinned.pinned_equation; refused
 /// ordering/is_eq.less_is_equal, never.
 #[inline]
 #[must_use]
@@ -338,7 +338,7 @@ pub fn eq(x: i8, y: i8) -> bool {
 /// ```
 ///
 /// Cited by rows A37; clause vstd_integers/Compare.ne; contract promisebook_i8::pb_i8_ne; law
-/// vstd_integers/Compare.ne-kept; pinned by vstd_integers/Pinned.pinned-equation; refused
+/// vstd_integers/Compare.ne_kept; pinned by vstd_integers/Pinned.pinned_equation; refused
 /// ordering/is_ne.equal_differs, greater_only.
 #[inline]
 #[must_use]
@@ -356,7 +356,7 @@ pub fn ne(x: i8, y: i8) -> bool {
 /// ```
 ///
 /// Cited by rows A40; clause vstd_integers/Compare.lt; contract promisebook_i8::pb_i8_lt; law
-/// vstd_integers/Compare.lt-kept; pinned by vstd_integers/Pinned.pinned-equation; refused
+/// vstd_integers/Compare.lt_kept; pinned by vstd_integers/Pinned.pinned_equation; refused
 /// ordering/is_lt.equal_is_less, greater_is_less.
 #[inline]
 #[must_use]
@@ -374,7 +374,7 @@ pub fn lt(x: i8, y: i8) -> bool {
 /// ```
 ///
 /// Cited by rows A41; clause vstd_integers/Compare.le; contract promisebook_i8::pb_i8_le; law
-/// vstd_integers/Compare.le-kept; pinned by vstd_integers/Pinned.pinned-equation; refused
+/// vstd_integers/Compare.le_kept; pinned by vstd_integers/Pinned.pinned_equation; refused
 /// ordering/is_le.equal_is_more, greater_is_at_most, vstd_integers/le.equal_is_more.
 #[inline]
 #[must_use]
@@ -392,7 +392,7 @@ pub fn le(x: i8, y: i8) -> bool {
 /// ```
 ///
 /// Cited by rows A42; clause vstd_integers/Compare.gt; contract promisebook_i8::pb_i8_gt; law
-/// vstd_integers/Compare.gt-kept; pinned by vstd_integers/Pinned.pinned-equation; refused
+/// vstd_integers/Compare.gt_kept; pinned by vstd_integers/Pinned.pinned_equation; refused
 /// ordering/is_gt.equal_is_greater, less_is_greater.
 #[inline]
 #[must_use]
@@ -410,7 +410,7 @@ pub fn gt(x: i8, y: i8) -> bool {
 /// ```
 ///
 /// Cited by rows A43; clause vstd_integers/Compare.ge; contract promisebook_i8::pb_i8_ge; law
-/// vstd_integers/Compare.ge-kept; pinned by vstd_integers/Pinned.pinned-equation; refused
+/// vstd_integers/Compare.ge_kept; pinned by vstd_integers/Pinned.pinned_equation; refused
 /// ordering/is_ge.equal_is_less, less_is_at_least.
 #[inline]
 #[must_use]
@@ -429,7 +429,7 @@ pub fn ge(x: i8, y: i8) -> bool {
 /// ```
 ///
 /// Cited by rows A38; clause vstd_integers/Compare.cmp; contract promisebook_i8::pb_i8_cmp; law
-/// vstd_integers/Compare.cmp-kept; pinned by vstd_integers/Pinned.pinned-equation; refused
+/// vstd_integers/Compare.cmp_kept; pinned by vstd_integers/Pinned.pinned_equation; refused
 /// ordering/number.greater_is_0, less_is_1, unsigned8_order/compare.equal_is_greater, less_is_greater,
 /// signed8_order/compare.equal_is_greater, less_is_greater.
 #[inline]
@@ -449,7 +449,7 @@ pub fn cmp(x: i8, y: i8) -> Ordering {
 /// ```
 ///
 /// Cited by rows A39; clause vstd_integers/Compare.cmp; contract promisebook_i8::pb_i8_partial_cmp; law
-/// vstd_integers/Compare.cmp-kept; pinned by vstd_integers/Pinned.pinned-option.
+/// vstd_integers/Compare.cmp_kept; pinned by vstd_integers/Pinned.pinned_option.
 #[inline]
 #[must_use]
 pub fn partial_cmp(x: i8, y: i8) -> Option<Ordering> {
@@ -476,8 +476,8 @@ pub fn partial_cmp(x: i8, y: i8) -> Option<Ordering> {
 /// assert_eq!(i8s::read_decimal(b"=42"), Err(NotDecimal::NoNumber));
 /// ```
 ///
-/// Cited by rows F7; clause theory_decimal/Read.wholeIn, readIn; contract
-/// promisebook_decimal::pb_i8_read_decimal; pinned by vstd_integers/Pinned.pinned-option; refused
+/// Cited by rows F7; clause theory_decimal/Read.whole_in, read_in; contract
+/// promisebook_decimal::pb_i8_read_decimal; pinned by vstd_integers/Pinned.pinned_option; refused
 /// decimal_read_signed/read_i8.sign_lost, sign_read_as_a_figure, promisebook_decimal/read_decimal.sign_refused.
 #[inline]
 pub fn read_decimal(s: &[u8]) -> Result<i8, NotDecimal> {
@@ -498,8 +498,8 @@ pub fn read_decimal(s: &[u8]) -> Result<i8, NotDecimal> {
 /// assert_eq!(i8s::read_decimal_in(s, 4..2), None);
 /// ```
 ///
-/// Cited by rows F7; clause theory_decimal/Read.wholeIn, readIn; contract
-/// promisebook_decimal::pb_i8_read_decimal; pinned by vstd_integers/Pinned.pinned-option; refused
+/// Cited by rows F7; clause theory_decimal/Read.whole_in, read_in; contract
+/// promisebook_decimal::pb_i8_read_decimal; pinned by vstd_integers/Pinned.pinned_option; refused
 /// decimal_read_signed/read_i8.sign_lost, sign_read_as_a_figure, promisebook_decimal/read_decimal.sign_refused.
 #[inline]
 #[must_use]
@@ -533,8 +533,8 @@ pub fn read_decimal_in(s: &[u8], part: Range<usize>) -> Option<Result<i8, NotDec
 /// ```
 ///
 /// Cited by rows F9; clause theory_decimal/Written.Shows, whole; contract
-/// promisebook_decimal::pb_i8_write_decimal; law theory_decimal/Showing.with-sign-shown; pinned by
-/// theory_decimal/Showing.pinned-shows; refused decimal_write/write_i8.sign_left_out, zero_with_a_sign.
+/// promisebook_decimal::pb_i8_write_decimal; law theory_decimal/Showing.with_sign_shown; pinned by
+/// theory_decimal/Showing.pinned_shows; refused decimal_write/write_i8.sign_left_out, zero_with_a_sign.
 #[inline]
 #[must_use]
 pub fn write_decimal(s: &mut [u8], x: i8) -> Option<usize> {
@@ -566,8 +566,8 @@ pub fn write_decimal(s: &mut [u8], x: i8) -> Option<usize> {
 /// ```
 ///
 /// Cited by rows F9; clause theory_decimal/Written.Shows, whole; contract
-/// promisebook_decimal::pb_i8_write_decimal; law theory_decimal/Showing.with-sign-shown; pinned by
-/// theory_decimal/Showing.pinned-shows; refused decimal_write/write_i8.sign_left_out, zero_with_a_sign.
+/// promisebook_decimal::pb_i8_write_decimal; law theory_decimal/Showing.with_sign_shown; pinned by
+/// theory_decimal/Showing.pinned_shows; refused decimal_write/write_i8.sign_left_out, zero_with_a_sign.
 #[inline]
 #[must_use]
 pub fn write_decimal_in(s: &mut [u8], part: Range<usize>, x: i8) -> Option<usize> {

@@ -14,9 +14,9 @@ use core::ops::Range;
 /// assert_eq!(isizes::wrapping_add(-100, 100), 0);
 /// ```
 ///
-/// Cited by rows A20; clause vstd_integers/Signed.wrapping-add; contract
-/// promisebook_isize::pb_isize_wrapping_add; law vstd_integers/Signed.wrapping-add-kept; pinned by
-/// vstd_integers/Pinned.pinned-equation; refused signed8_sums/wrapping_add.complement, twice.
+/// Cited by rows A20; clause vstd_integers/Signed.wrapping_add; contract
+/// promisebook_isize::pb_isize_wrapping_add; law vstd_integers/Signed.wrapping_add_kept; pinned by
+/// vstd_integers/Pinned.pinned_equation; refused signed8_sums/wrapping_add.complement, twice.
 #[inline]
 #[must_use]
 pub fn wrapping_add(x: isize, y: isize) -> isize {
@@ -31,9 +31,9 @@ pub fn wrapping_add(x: isize, y: isize) -> isize {
 /// assert_eq!(isizes::wrapping_add_unsigned(100, 18446744073709551560), 44);
 /// ```
 ///
-/// Cited by rows A21; clause vstd_integers/Signed.wrapping-add-unsigned; contract
-/// promisebook_isize::pb_isize_wrapping_add_unsigned; law vstd_integers/Signed.wrapping-add-unsigned-kept; pinned
-/// by vstd_integers/Pinned.pinned-equation; refused signed8_sums/wrapping_add_unsigned.complement, subtracts.
+/// Cited by rows A21; clause vstd_integers/Signed.wrapping_add_unsigned; contract
+/// promisebook_isize::pb_isize_wrapping_add_unsigned; law vstd_integers/Signed.wrapping_add_unsigned_kept; pinned
+/// by vstd_integers/Pinned.pinned_equation; refused signed8_sums/wrapping_add_unsigned.complement, subtracts.
 #[inline]
 #[must_use]
 pub fn wrapping_add_unsigned(x: isize, y: usize) -> isize {
@@ -48,9 +48,9 @@ pub fn wrapping_add_unsigned(x: isize, y: usize) -> isize {
 /// assert_eq!(isizes::wrapping_sub(-9223372036854775807, 1), -9223372036854775808);
 /// ```
 ///
-/// Cited by rows A22; clause vstd_integers/Signed.wrapping-sub; contract
-/// promisebook_isize::pb_isize_wrapping_sub; law vstd_integers/Signed.wrapping-sub-kept; pinned by
-/// vstd_integers/Pinned.pinned-equation; refused signed8_sums/wrapping_sub.nothing_left, other_way_round,
+/// Cited by rows A22; clause vstd_integers/Signed.wrapping_sub; contract
+/// promisebook_isize::pb_isize_wrapping_sub; law vstd_integers/Signed.wrapping_sub_kept; pinned by
+/// vstd_integers/Pinned.pinned_equation; refused signed8_sums/wrapping_sub.nothing_left, other_way_round,
 /// vstd_integers/wrapping_sub.passes_the_top.
 #[inline]
 #[must_use]
@@ -66,9 +66,9 @@ pub fn wrapping_sub(x: isize, y: isize) -> isize {
 /// assert_eq!(isizes::wrapping_mul(-9223372036854775807, -1), 9223372036854775807);
 /// ```
 ///
-/// Cited by rows A23; clause vstd_integers/Signed.wrapping-mul; contract
-/// promisebook_isize::pb_isize_wrapping_mul; law vstd_integers/Signed.wrapping-mul-kept; pinned by
-/// vstd_integers/Pinned.pinned-equation; refused signed8_sums/wrapping_mul.complement, square.
+/// Cited by rows A23; clause vstd_integers/Signed.wrapping_mul; contract
+/// promisebook_isize::pb_isize_wrapping_mul; law vstd_integers/Signed.wrapping_mul_kept; pinned by
+/// vstd_integers/Pinned.pinned_equation; refused signed8_sums/wrapping_mul.complement, square.
 #[inline]
 #[must_use]
 pub fn wrapping_mul(x: isize, y: isize) -> isize {
@@ -83,9 +83,9 @@ pub fn wrapping_mul(x: isize, y: isize) -> isize {
 /// assert_eq!(isizes::wrapping_shl(3, 63), -9223372036854775808);
 /// ```
 ///
-/// Cited by rows A24; clause vstd_integers/Signed.wrapping-shl; contract
-/// promisebook_isize::pb_isize_wrapping_shl; law vstd_integers/Signed.wrapping-shl-kept; pinned by
-/// vstd_integers/Pinned.pinned-equation; refused signed8_bits/wrapping_shl.by_the_width_is_0, modulo_7.
+/// Cited by rows A24; clause vstd_integers/Signed.wrapping_shl; contract
+/// promisebook_isize::pb_isize_wrapping_shl; law vstd_integers/Signed.wrapping_shl_kept; pinned by
+/// vstd_integers/Pinned.pinned_equation; refused signed8_bits/wrapping_shl.by_the_width_is_0, modulo_7.
 #[inline]
 #[must_use]
 pub fn wrapping_shl(x: isize, rhs: u32) -> isize {
@@ -101,9 +101,9 @@ pub fn wrapping_shl(x: isize, rhs: u32) -> isize {
 /// assert_eq!(isizes::wrapping_shr(-7, 65), -4);
 /// ```
 ///
-/// Cited by rows A25; clause vstd_integers/Signed.wrapping-shr; contract
-/// promisebook_isize::pb_isize_wrapping_shr; law vstd_integers/Signed.wrapping-shr-kept; pinned by
-/// vstd_integers/Pinned.pinned-equation; refused signed8_bits/wrapping_shr.modulo_7, towards_zero.
+/// Cited by rows A25; clause vstd_integers/Signed.wrapping_shr; contract
+/// promisebook_isize::pb_isize_wrapping_shr; law vstd_integers/Signed.wrapping_shr_kept; pinned by
+/// vstd_integers/Pinned.pinned_equation; refused signed8_bits/wrapping_shr.modulo_7, towards_zero.
 #[inline]
 #[must_use]
 pub fn wrapping_shr(x: isize, rhs: u32) -> isize {
@@ -118,8 +118,8 @@ pub fn wrapping_shr(x: isize, rhs: u32) -> isize {
 /// assert_eq!(isizes::checked_add(-100, 100), Some(0));
 /// ```
 ///
-/// Cited by rows A26; clause vstd_integers/Signed.checked-add; contract promisebook_isize::pb_isize_checked_add;
-/// law vstd_integers/Signed.checked-add-kept; pinned by vstd_integers/Pinned.pinned-option; refused
+/// Cited by rows A26; clause vstd_integers/Signed.checked_add; contract promisebook_isize::pb_isize_checked_add;
+/// law vstd_integers/Signed.checked_add_kept; pinned by vstd_integers/Pinned.pinned_option; refused
 /// signed8_sums/checked_add.first_summand, largest_refused, signed64_sums/checked_add.other_signs_refused.
 #[inline]
 #[must_use]
@@ -136,9 +136,9 @@ pub fn checked_add(x: isize, y: isize) -> Option<isize> {
 /// assert_eq!(isizes::checked_add_unsigned(100, 18446744073709551560), None);
 /// ```
 ///
-/// Cited by rows A27; clause vstd_integers/Signed.checked-add-unsigned; contract
-/// promisebook_isize::pb_isize_checked_add_unsigned; law vstd_integers/Signed.checked-add-unsigned-kept; pinned
-/// by vstd_integers/Pinned.pinned-option; refused signed8_sums/checked_add_unsigned.first_summand, rise_refused.
+/// Cited by rows A27; clause vstd_integers/Signed.checked_add_unsigned; contract
+/// promisebook_isize::pb_isize_checked_add_unsigned; law vstd_integers/Signed.checked_add_unsigned_kept; pinned
+/// by vstd_integers/Pinned.pinned_option; refused signed8_sums/checked_add_unsigned.first_summand, rise_refused.
 #[inline]
 #[must_use]
 pub fn checked_add_unsigned(x: isize, y: usize) -> Option<isize> {
@@ -154,8 +154,8 @@ pub fn checked_add_unsigned(x: isize, y: usize) -> Option<isize> {
 /// assert_eq!(isizes::checked_sub(-9223372036854775807, 1), Some(-9223372036854775808));
 /// ```
 ///
-/// Cited by rows A28; clause vstd_integers/Signed.checked-sub; contract promisebook_isize::pb_isize_checked_sub;
-/// law vstd_integers/Signed.checked-sub-kept; pinned by vstd_integers/Pinned.pinned-option; refused
+/// Cited by rows A28; clause vstd_integers/Signed.checked_sub; contract promisebook_isize::pb_isize_checked_sub;
+/// law vstd_integers/Signed.checked_sub_kept; pinned by vstd_integers/Pinned.pinned_option; refused
 /// signed8_sums/checked_sub.least_refused, other_way_round, signed64_sums/checked_sub.other_signs_refused.
 #[inline]
 #[must_use]
@@ -172,9 +172,9 @@ pub fn checked_sub(x: isize, y: isize) -> Option<isize> {
 /// assert_eq!(isizes::checked_sub_unsigned(-9223372036854775780, 200), None);
 /// ```
 ///
-/// Cited by rows A29; clause vstd_integers/Signed.checked-sub-unsigned; contract
-/// promisebook_isize::pb_isize_checked_sub_unsigned; law vstd_integers/Signed.checked-sub-unsigned-kept; pinned
-/// by vstd_integers/Pinned.pinned-option; refused signed8_sums/checked_sub_unsigned.fall_refused, first_number.
+/// Cited by rows A29; clause vstd_integers/Signed.checked_sub_unsigned; contract
+/// promisebook_isize::pb_isize_checked_sub_unsigned; law vstd_integers/Signed.checked_sub_unsigned_kept; pinned
+/// by vstd_integers/Pinned.pinned_option; refused signed8_sums/checked_sub_unsigned.fall_refused, first_number.
 #[inline]
 #[must_use]
 pub fn checked_sub_unsigned(x: isize, y: usize) -> Option<isize> {
@@ -190,8 +190,8 @@ pub fn checked_sub_unsigned(x: isize, y: usize) -> Option<isize> {
 /// assert_eq!(isizes::checked_mul(-9223372036854775807, -1), Some(9223372036854775807));
 /// ```
 ///
-/// Cited by rows A30; clause vstd_integers/Signed.checked-mul; contract promisebook_isize::pb_isize_checked_mul;
-/// law vstd_integers/Signed.checked-mul-kept; pinned by vstd_integers/Pinned.pinned-option; refused
+/// Cited by rows A30; clause vstd_integers/Signed.checked_mul; contract promisebook_isize::pb_isize_checked_mul;
+/// law vstd_integers/Signed.checked_mul_kept; pinned by vstd_integers/Pinned.pinned_option; refused
 /// signed8_sums/checked_mul.larger_quotient_taken, square.
 #[inline]
 #[must_use]
@@ -213,8 +213,8 @@ pub fn checked_mul(x: isize, y: isize) -> Option<isize> {
 /// assert_eq!(isizes::checked_div(7, 0), None);
 /// ```
 ///
-/// Cited by rows A31; clause vstd_integers/Signed.checked-div; contract promisebook_isize::pb_isize_checked_div;
-/// law vstd_integers/Signed.checked-div-kept; pinned by vstd_integers/Pinned.pinned-option; refused
+/// Cited by rows A31; clause vstd_integers/Signed.checked_div; contract promisebook_isize::pb_isize_checked_div;
+/// law vstd_integers/Signed.checked_div_kept; pinned by vstd_integers/Pinned.pinned_option; refused
 /// signed8_division/checked_div.least_by_minus_one_wraps, other_dividend, vstd_integers/checked_div.euclidean,
 /// vstd_integers/divided_unless.least_by_minus_one_not_refused.
 #[inline]
@@ -237,9 +237,9 @@ pub fn checked_div(x: isize, y: isize) -> Option<isize> {
 /// assert_eq!(isizes::checked_div_euclid(7, 0), None);
 /// ```
 ///
-/// Cited by rows A32; clause vstd_integers/Signed.checked-div-euclid; contract
-/// promisebook_isize::pb_isize_checked_div_euclid; law vstd_integers/Signed.checked-div-euclid-kept; pinned by
-/// vstd_integers/Pinned.pinned-option; refused signed8_division/checked_div_euclid.not_mended, towards_zero,
+/// Cited by rows A32; clause vstd_integers/Signed.checked_div_euclid; contract
+/// promisebook_isize::pb_isize_checked_div_euclid; law vstd_integers/Signed.checked_div_euclid_kept; pinned by
+/// vstd_integers/Pinned.pinned_option; refused signed8_division/checked_div_euclid.not_mended, towards_zero,
 /// promisebook_i8/checked_div_euclid.towards_zero.
 #[inline]
 #[must_use]
@@ -261,8 +261,8 @@ pub fn checked_div_euclid(x: isize, y: isize) -> Option<isize> {
 /// assert_eq!(isizes::checked_rem(7, 0), None);
 /// ```
 ///
-/// Cited by rows A33; clause vstd_integers/Signed.checked-rem; contract promisebook_isize::pb_isize_checked_rem;
-/// law vstd_integers/Signed.checked-rem-kept; pinned by vstd_integers/Pinned.pinned-option; refused
+/// Cited by rows A33; clause vstd_integers/Signed.checked_rem; contract promisebook_isize::pb_isize_checked_rem;
+/// law vstd_integers/Signed.checked_rem_kept; pinned by vstd_integers/Pinned.pinned_option; refused
 /// signed8_division/checked_rem.euclidean, least_by_minus_one_is_0, promisebook_i8/checked_rem.euclidean.
 #[inline]
 #[must_use]
@@ -284,9 +284,9 @@ pub fn checked_rem(x: isize, y: isize) -> Option<isize> {
 /// assert_eq!(isizes::checked_rem_euclid(7, 0), None);
 /// ```
 ///
-/// Cited by rows A34; clause vstd_integers/Signed.checked-rem-euclid; contract
-/// promisebook_isize::pb_isize_checked_rem_euclid; law vstd_integers/Signed.checked-rem-euclid-kept; pinned by
-/// vstd_integers/Pinned.pinned-option; refused signed8_division/checked_rem_euclid.absolute_value, not_mended.
+/// Cited by rows A34; clause vstd_integers/Signed.checked_rem_euclid; contract
+/// promisebook_isize::pb_isize_checked_rem_euclid; law vstd_integers/Signed.checked_rem_euclid_kept; pinned by
+/// vstd_integers/Pinned.pinned_option; refused signed8_division/checked_rem_euclid.absolute_value, not_mended.
 #[inline]
 #[must_use]
 pub fn checked_rem_euclid(x: isize, y: isize) -> Option<isize> {
@@ -303,7 +303,7 @@ pub fn checked_rem_euclid(x: isize, y: isize) -> Option<isize> {
 /// ```
 ///
 /// Cited by rows A35; clause vstd_integers/Compare.clone; contract promisebook_isize::pb_isize_clone; law
-/// vstd_integers/Compare.clone-kept; pinned by vstd_integers/Pinned.pinned-unsigned, pinned-equation; refused
+/// vstd_integers/Compare.clone_kept; pinned by vstd_integers/Pinned.pinned_unsigned, pinned_equation; refused
 /// promisebook_u8/clone.always_0, promisebook_i8/clone.always_0.
 #[inline]
 #[must_use]
@@ -321,7 +321,7 @@ pub fn clone(x: isize) -> isize {
 /// ```
 ///
 /// Cited by rows A36; clause vstd_integers/Compare.eq; contract promisebook_isize::pb_isize_eq; law
-/// vstd_integers/Compare.eq-kept; pinned by vstd_integers/Pinned.pinned-equation; refused
+/// vstd_integers/Compare.eq_kept; pinned by vstd_integers/Pinned.pinned_equation; refused
 /// ordering/is_eq.less_is_equal, never.
 #[inline]
 #[must_use]
@@ -339,7 +339,7 @@ pub fn eq(x: isize, y: isize) -> bool {
 /// ```
 ///
 /// Cited by rows A37; clause vstd_integers/Compare.ne; contract promisebook_isize::pb_isize_ne; law
-/// vstd_integers/Compare.ne-kept; pinned by vstd_integers/Pinned.pinned-equation; refused
+/// vstd_integers/Compare.ne_kept; pinned by vstd_integers/Pinned.pinned_equation; refused
 /// ordering/is_ne.equal_differs, greater_only.
 #[inline]
 #[must_use]
@@ -357,7 +357,7 @@ pub fn ne(x: isize, y: isize) -> bool {
 /// ```
 ///
 /// Cited by rows A40; clause vstd_integers/Compare.lt; contract promisebook_isize::pb_isize_lt; law
-/// vstd_integers/Compare.lt-kept; pinned by vstd_integers/Pinned.pinned-equation; refused
+/// vstd_integers/Compare.lt_kept; pinned by vstd_integers/Pinned.pinned_equation; refused
 /// ordering/is_lt.equal_is_less, greater_is_less.
 #[inline]
 #[must_use]
@@ -375,7 +375,7 @@ pub fn lt(x: isize, y: isize) -> bool {
 /// ```
 ///
 /// Cited by rows A41; clause vstd_integers/Compare.le; contract promisebook_isize::pb_isize_le; law
-/// vstd_integers/Compare.le-kept; pinned by vstd_integers/Pinned.pinned-equation; refused
+/// vstd_integers/Compare.le_kept; pinned by vstd_integers/Pinned.pinned_equation; refused
 /// ordering/is_le.equal_is_more, greater_is_at_most, vstd_integers/le.equal_is_more.
 #[inline]
 #[must_use]
@@ -393,7 +393,7 @@ pub fn le(x: isize, y: isize) -> bool {
 /// ```
 ///
 /// Cited by rows A42; clause vstd_integers/Compare.gt; contract promisebook_isize::pb_isize_gt; law
-/// vstd_integers/Compare.gt-kept; pinned by vstd_integers/Pinned.pinned-equation; refused
+/// vstd_integers/Compare.gt_kept; pinned by vstd_integers/Pinned.pinned_equation; refused
 /// ordering/is_gt.equal_is_greater, less_is_greater.
 #[inline]
 #[must_use]
@@ -411,7 +411,7 @@ pub fn gt(x: isize, y: isize) -> bool {
 /// ```
 ///
 /// Cited by rows A43; clause vstd_integers/Compare.ge; contract promisebook_isize::pb_isize_ge; law
-/// vstd_integers/Compare.ge-kept; pinned by vstd_integers/Pinned.pinned-equation; refused
+/// vstd_integers/Compare.ge_kept; pinned by vstd_integers/Pinned.pinned_equation; refused
 /// ordering/is_ge.equal_is_less, less_is_at_least.
 #[inline]
 #[must_use]
@@ -430,7 +430,7 @@ pub fn ge(x: isize, y: isize) -> bool {
 /// ```
 ///
 /// Cited by rows A38; clause vstd_integers/Compare.cmp; contract promisebook_isize::pb_isize_cmp; law
-/// vstd_integers/Compare.cmp-kept; pinned by vstd_integers/Pinned.pinned-equation; refused
+/// vstd_integers/Compare.cmp_kept; pinned by vstd_integers/Pinned.pinned_equation; refused
 /// ordering/number.greater_is_0, less_is_1, unsigned8_order/compare.equal_is_greater, less_is_greater,
 /// signed8_order/compare.equal_is_greater, less_is_greater.
 #[inline]
@@ -450,7 +450,7 @@ pub fn cmp(x: isize, y: isize) -> Ordering {
 /// ```
 ///
 /// Cited by rows A39; clause vstd_integers/Compare.cmp; contract promisebook_isize::pb_isize_partial_cmp; law
-/// vstd_integers/Compare.cmp-kept; pinned by vstd_integers/Pinned.pinned-option.
+/// vstd_integers/Compare.cmp_kept; pinned by vstd_integers/Pinned.pinned_option.
 #[inline]
 #[must_use]
 pub fn partial_cmp(x: isize, y: isize) -> Option<Ordering> {
@@ -477,8 +477,8 @@ pub fn partial_cmp(x: isize, y: isize) -> Option<Ordering> {
 /// assert_eq!(isizes::read_decimal(b"=42"), Err(NotDecimal::NoNumber));
 /// ```
 ///
-/// Cited by rows F7; clause theory_decimal/Read.wholeIn, readIn; contract
-/// promisebook_decimal::pb_isize_read_decimal; pinned by vstd_integers/Pinned.pinned-option; refused
+/// Cited by rows F7; clause theory_decimal/Read.whole_in, read_in; contract
+/// promisebook_decimal::pb_isize_read_decimal; pinned by vstd_integers/Pinned.pinned_option; refused
 /// decimal_read_signed/read_i8.sign_lost, sign_read_as_a_figure, promisebook_decimal/read_decimal.sign_refused.
 #[inline]
 pub fn read_decimal(s: &[u8]) -> Result<isize, NotDecimal> {
@@ -499,8 +499,8 @@ pub fn read_decimal(s: &[u8]) -> Result<isize, NotDecimal> {
 /// assert_eq!(isizes::read_decimal_in(s, 4..2), None);
 /// ```
 ///
-/// Cited by rows F7; clause theory_decimal/Read.wholeIn, readIn; contract
-/// promisebook_decimal::pb_isize_read_decimal; pinned by vstd_integers/Pinned.pinned-option; refused
+/// Cited by rows F7; clause theory_decimal/Read.whole_in, read_in; contract
+/// promisebook_decimal::pb_isize_read_decimal; pinned by vstd_integers/Pinned.pinned_option; refused
 /// decimal_read_signed/read_i8.sign_lost, sign_read_as_a_figure, promisebook_decimal/read_decimal.sign_refused.
 #[inline]
 #[must_use]
@@ -534,8 +534,8 @@ pub fn read_decimal_in(s: &[u8], part: Range<usize>) -> Option<Result<isize, Not
 /// ```
 ///
 /// Cited by rows F9; clause theory_decimal/Written.Shows, whole; contract
-/// promisebook_decimal::pb_isize_write_decimal; law theory_decimal/Showing.with-sign-shown; pinned by
-/// theory_decimal/Showing.pinned-shows; refused decimal_write/write_i8.sign_left_out, zero_with_a_sign.
+/// promisebook_decimal::pb_isize_write_decimal; law theory_decimal/Showing.with_sign_shown; pinned by
+/// theory_decimal/Showing.pinned_shows; refused decimal_write/write_i8.sign_left_out, zero_with_a_sign.
 #[inline]
 #[must_use]
 pub fn write_decimal(s: &mut [u8], x: isize) -> Option<usize> {
@@ -567,8 +567,8 @@ pub fn write_decimal(s: &mut [u8], x: isize) -> Option<usize> {
 /// ```
 ///
 /// Cited by rows F9; clause theory_decimal/Written.Shows, whole; contract
-/// promisebook_decimal::pb_isize_write_decimal; law theory_decimal/Showing.with-sign-shown; pinned by
-/// theory_decimal/Showing.pinned-shows; refused decimal_write/write_i8.sign_left_out, zero_with_a_sign.
+/// promisebook_decimal::pb_isize_write_decimal; law theory_decimal/Showing.with_sign_shown; pinned by
+/// theory_decimal/Showing.pinned_shows; refused decimal_write/write_i8.sign_left_out, zero_with_a_sign.
 #[inline]
 #[must_use]
 pub fn write_decimal_in(s: &mut [u8], part: Range<usize>, x: isize) -> Option<usize> {

@@ -21,9 +21,9 @@ pub struct Read {
 /// assert_eq!(text::scalar_len(0xd800), None);
 /// ```
 ///
-/// Cited by rows E63; clause vstd_text/Promises.ScalarLen, vstd_text/Encoding.encode-scalar; contract
-/// promisebook_text::pb_text_scalar_len; law vstd_text/Promised.scalar-len-promised,
-/// vstd_text/Kept.scalar-len-kept; pinned by vstd_text/Pinned.scalar-len-pinned; refused
+/// Cited by rows E63; clause vstd_text/Promises.ScalarLen, vstd_text/Encoding.encode_scalar; contract
+/// promisebook_text::pb_text_scalar_len; law vstd_text/Promised.scalar_len_promised,
+/// vstd_text/Kept.scalar_len_kept; pinned by vstd_text/Pinned.scalar_len_pinned; refused
 /// text_scalar/scalar_len.four_bytes_for_three, three_bytes_for_two,
 /// promisebook_text/pb_text_scalar_len.always_four.
 #[inline]
@@ -42,9 +42,9 @@ pub fn scalar_len(c: u32) -> Option<usize> {
 /// assert!(!text::is_white_space(0x200b));
 /// ```
 ///
-/// Cited by rows E65; clause vstd_text/Promises.IsWhiteSpace, vstd_text/Characters.is-white-space; contract
-/// promisebook_text::pb_text_is_white_space; law vstd_text/Promised.is-white-space-promised,
-/// vstd_text/Kept.is-white-space-kept; pinned by vstd_text/Pinned.is-white-space-pinned; refused
+/// Cited by rows E65; clause vstd_text/Promises.IsWhiteSpace, vstd_text/Characters.is_white_space; contract
+/// promisebook_text::pb_text_is_white_space; law vstd_text/Promised.is_white_space_promised,
+/// vstd_text/Kept.is_white_space_kept; pinned by vstd_text/Pinned.is_white_space_pinned; refused
 /// text_scalar/is_white_space.next_line_left_out, zero_width_space_counted.
 #[inline]
 #[must_use]
@@ -68,9 +68,9 @@ pub fn is_white_space(c: u32) -> bool {
 /// assert_eq!(out, [0x00, 0x00, 0x00, 0x00]);
 /// ```
 ///
-/// Cited by rows E28; clause vstd_text/Promises.Write, vstd_text/Encoding.encode-scalar; contract
-/// promisebook_text::pb_text_write; law vstd_text/Promised.write-promised, vstd_text/Kept.write-kept,
-/// vstd_text/Encoding.encode-scalar-same; pinned by vstd_text/Pinned.write-pinned; refused
+/// Cited by rows E28; clause vstd_text/Promises.Write, vstd_text/Encoding.encode_scalar; contract
+/// promisebook_text::pb_text_write; law vstd_text/Promised.write_promised, vstd_text/Kept.write_kept,
+/// vstd_text/Encoding.encode_scalar_same; pinned by vstd_text/Pinned.write_pinned; refused
 /// text_write/write.form_past_the_end, wrong_digit_first, wrong_mark, vstd_text/write.refusal_leaves_anything,
 /// promisebook_text/pb_text_write.slice_as_it_was.
 #[inline]
@@ -97,9 +97,9 @@ pub fn write(out: &mut [u8], c: u32) -> Option<usize> {
 /// assert_eq!(out, [0x00, 0x00, 0x00, 0x00]);
 /// ```
 ///
-/// Cited by rows E28; clause vstd_text/Promises.Write, vstd_text/Encoding.encode-scalar; contract
-/// promisebook_text::pb_text_write; law vstd_text/Promised.write-promised, vstd_text/Kept.write-kept,
-/// vstd_text/Encoding.encode-scalar-same; pinned by vstd_text/Pinned.write-pinned; refused
+/// Cited by rows E28; clause vstd_text/Promises.Write, vstd_text/Encoding.encode_scalar; contract
+/// promisebook_text::pb_text_write; law vstd_text/Promised.write_promised, vstd_text/Kept.write_kept,
+/// vstd_text/Encoding.encode_scalar_same; pinned by vstd_text/Pinned.write_pinned; refused
 /// text_write/write.form_past_the_end, wrong_digit_first, wrong_mark, vstd_text/write.refusal_leaves_anything,
 /// promisebook_text/pb_text_write.slice_as_it_was.
 #[inline]
@@ -117,10 +117,10 @@ pub fn write_in(out: &mut [u8], part: Range<usize>, c: u32) -> Option<usize> {
 /// assert_eq!(text::read_first(&[0xe2, 0x82]), None);
 /// ```
 ///
-/// Cited by rows E13, E14; clause vstd_text/Promises.ReadFirst, vstd_text/Decoding.decode-first-scalar,
-/// length-of-first-scalar; contract promisebook_text::pb_text_read_first; law
-/// vstd_text/Promised.read-first-promised, vstd_text/Kept.read-first-kept; pinned by
-/// vstd_text/Pinned.read-first-pinned; refused text_read/read_first.byte_80_accepted, cut_off_accepted,
+/// Cited by rows E13, E14; clause vstd_text/Promises.ReadFirst, vstd_text/Decoding.decode_first_scalar,
+/// length_of_first_scalar; contract promisebook_text::pb_text_read_first; law
+/// vstd_text/Promised.read_first_promised, vstd_text/Kept.read_first_kept; pinned by
+/// vstd_text/Pinned.read_first_pinned; refused text_read/read_first.byte_80_accepted, cut_off_accepted,
 /// longer_than_needed, surrogate_accepted, too_large_accepted,
 /// promisebook_text/pb_text_read_first.ends_exchanged.
 #[inline]
@@ -141,10 +141,10 @@ pub fn read_first(s: &[u8]) -> Option<Read> {
 /// assert_eq!(text::read_first_in(s, 3..5), None);
 /// ```
 ///
-/// Cited by rows E13, E14; clause vstd_text/Promises.ReadFirst, vstd_text/Decoding.decode-first-scalar,
-/// length-of-first-scalar; contract promisebook_text::pb_text_read_first; law
-/// vstd_text/Promised.read-first-promised, vstd_text/Kept.read-first-kept; pinned by
-/// vstd_text/Pinned.read-first-pinned; refused text_read/read_first.byte_80_accepted, cut_off_accepted,
+/// Cited by rows E13, E14; clause vstd_text/Promises.ReadFirst, vstd_text/Decoding.decode_first_scalar,
+/// length_of_first_scalar; contract promisebook_text::pb_text_read_first; law
+/// vstd_text/Promised.read_first_promised, vstd_text/Kept.read_first_kept; pinned by
+/// vstd_text/Pinned.read_first_pinned; refused text_read/read_first.byte_80_accepted, cut_off_accepted,
 /// longer_than_needed, surrogate_accepted, too_large_accepted,
 /// promisebook_text/pb_text_read_first.ends_exchanged.
 #[inline]
@@ -163,9 +163,9 @@ pub fn read_first_in(s: &[u8], part: Range<usize>) -> Option<Read> {
 /// assert_eq!(text::read_last(&[0x41, 0xc3, 0xa9, 0xe2, 0x82]), None);
 /// ```
 ///
-/// Cited by rows E21, E23; clause vstd_text/Promises.ReadLast, vstd_text/Decoding.length-of-last-scalar,
-/// decode-last-scalar; contract promisebook_text::pb_text_read_last; law vstd_text/Promised.read-last-promised,
-/// vstd_text/Kept.read-last-kept; pinned by vstd_text/Pinned.read-last-pinned; refused
+/// Cited by rows E21, E23; clause vstd_text/Promises.ReadLast, vstd_text/Decoding.length_of_last_scalar,
+/// decode_last_scalar; contract promisebook_text::pb_text_read_last; law vstd_text/Promised.read_last_promised,
+/// vstd_text/Kept.read_last_kept; pinned by vstd_text/Pinned.read_last_pinned; refused
 /// text_read/read_last.one_byte_short, shorter_form_accepted, stops_at_a_following_byte,
 /// vstd_text/read_last.any_length, promisebook_text/pb_text_read_last.the_first.
 #[inline]
@@ -186,9 +186,9 @@ pub fn read_last(s: &[u8]) -> Option<Read> {
 /// assert_eq!(text::read_last_in(s, 0..5), None);
 /// ```
 ///
-/// Cited by rows E21, E23; clause vstd_text/Promises.ReadLast, vstd_text/Decoding.length-of-last-scalar,
-/// decode-last-scalar; contract promisebook_text::pb_text_read_last; law vstd_text/Promised.read-last-promised,
-/// vstd_text/Kept.read-last-kept; pinned by vstd_text/Pinned.read-last-pinned; refused
+/// Cited by rows E21, E23; clause vstd_text/Promises.ReadLast, vstd_text/Decoding.length_of_last_scalar,
+/// decode_last_scalar; contract promisebook_text::pb_text_read_last; law vstd_text/Promised.read_last_promised,
+/// vstd_text/Kept.read_last_kept; pinned by vstd_text/Pinned.read_last_pinned; refused
 /// text_read/read_last.one_byte_short, shorter_form_accepted, stops_at_a_following_byte,
 /// vstd_text/read_last.any_length, promisebook_text/pb_text_read_last.the_first.
 #[inline]
@@ -209,9 +209,9 @@ pub fn read_last_in(s: &[u8], part: Range<usize>) -> Option<Read> {
 /// assert!(!text::valid(&[0xf0, 0x9f, 0x98]));
 /// ```
 ///
-/// Cited by rows E17; clause vstd_text/Promises.Valid, vstd_text/Decoding.Valid-utf8; contract
-/// promisebook_text::pb_text_valid; law vstd_text/Promised.valid-promised, vstd_text/Kept.valid-kept,
-/// vstd_text/Whole.valid-utf8-is, valid-utf8-same; pinned by vstd_text/Pinned.valid-pinned; refused
+/// Cited by rows E17; clause vstd_text/Promises.Valid, vstd_text/Decoding.ValidUtf8; contract
+/// promisebook_text::pb_text_valid; law vstd_text/Promised.valid_promised, vstd_text/Kept.valid_kept,
+/// vstd_text/Whole.valid_utf8_is, valid_utf8_same; pinned by vstd_text/Pinned.valid_pinned; refused
 /// text_valid/valid.always, wrong_from_the_start.
 #[inline]
 #[must_use]
@@ -231,9 +231,9 @@ pub fn valid(s: &[u8]) -> bool {
 /// assert_eq!(text::valid_in(&[0x28, 0xf0, 0x9f, 0x98, 0x29], 1..6), None);
 /// ```
 ///
-/// Cited by rows E17; clause vstd_text/Promises.Valid, vstd_text/Decoding.Valid-utf8; contract
-/// promisebook_text::pb_text_valid; law vstd_text/Promised.valid-promised, vstd_text/Kept.valid-kept,
-/// vstd_text/Whole.valid-utf8-is, valid-utf8-same; pinned by vstd_text/Pinned.valid-pinned; refused
+/// Cited by rows E17; clause vstd_text/Promises.Valid, vstd_text/Decoding.ValidUtf8; contract
+/// promisebook_text::pb_text_valid; law vstd_text/Promised.valid_promised, vstd_text/Kept.valid_kept,
+/// vstd_text/Whole.valid_utf8_is, valid_utf8_same; pinned by vstd_text/Pinned.valid_pinned; refused
 /// text_valid/valid.always, wrong_from_the_start.
 #[inline]
 #[must_use]
@@ -249,9 +249,9 @@ pub fn valid_in(s: &[u8], part: Range<usize>) -> Option<bool> {
 /// assert_eq!(text::count(&[0xe2, 0x82]), None);
 /// ```
 ///
-/// Cited by rows E19; clause vstd_text/Promises.Count, vstd_text/Decoding.decode-utf8; contract
-/// promisebook_text::pb_text_count; law vstd_text/Promised.count-promised, vstd_text/Kept.count-kept,
-/// vstd_text/Whole.decode-utf8-is, decode-utf8-same; pinned by vstd_text/Pinned.count-pinned; refused
+/// Cited by rows E19; clause vstd_text/Promises.Count, vstd_text/Decoding.decode_utf8; contract
+/// promisebook_text::pb_text_count; law vstd_text/Promised.count_promised, vstd_text/Kept.count_kept,
+/// vstd_text/Whole.decode_utf8_is, decode_utf8_same; pinned by vstd_text/Pinned.count_pinned; refused
 /// text_valid/count.marks_confused, one_too_many, vstd_text/count.refusal_with_any_number.
 #[inline]
 #[must_use]
@@ -270,9 +270,9 @@ pub fn count(s: &[u8]) -> Option<usize> {
 /// assert_eq!(text::count_in(&[0x28, 0xe2, 0x82, 0x29], 1..5), None);
 /// ```
 ///
-/// Cited by rows E19; clause vstd_text/Promises.Count, vstd_text/Decoding.decode-utf8; contract
-/// promisebook_text::pb_text_count; law vstd_text/Promised.count-promised, vstd_text/Kept.count-kept,
-/// vstd_text/Whole.decode-utf8-is, decode-utf8-same; pinned by vstd_text/Pinned.count-pinned; refused
+/// Cited by rows E19; clause vstd_text/Promises.Count, vstd_text/Decoding.decode_utf8; contract
+/// promisebook_text::pb_text_count; law vstd_text/Promised.count_promised, vstd_text/Kept.count_kept,
+/// vstd_text/Whole.decode_utf8_is, decode_utf8_same; pinned by vstd_text/Pinned.count_pinned; refused
 /// text_valid/count.marks_confused, one_too_many, vstd_text/count.refusal_with_any_number.
 #[inline]
 #[must_use]
@@ -291,10 +291,10 @@ pub fn count_in(s: &[u8], part: Range<usize>) -> Option<usize> {
 /// assert_eq!(text::is_boundary(&[0xff], 0), None);
 /// ```
 ///
-/// Cited by rows E32; clause vstd_text/Promises.IsBoundary, vstd_text/Places.Is-char-boundary; contract
-/// promisebook_text::pb_text_is_boundary; law vstd_text/Promised.is-boundary-promised,
-/// vstd_text/Kept.is-boundary-kept, vstd_text/Places.is-char-boundary-is; pinned by
-/// vstd_text/Pinned.is-boundary-pinned; refused text_valid/is_boundary.end_left_out, inside_the_last_scalar,
+/// Cited by rows E32; clause vstd_text/Promises.IsBoundary, vstd_text/Places.IsCharBoundary; contract
+/// promisebook_text::pb_text_is_boundary; law vstd_text/Promised.is_boundary_promised,
+/// vstd_text/Kept.is_boundary_kept, vstd_text/Places.is_char_boundary_is; pinned by
+/// vstd_text/Pinned.is_boundary_pinned; refused text_valid/is_boundary.end_left_out, inside_the_last_scalar,
 /// vstd_text/is_boundary.refusal_may_say_true, vstd_text/is_char_boundary.inside_the_first_scalar,
 /// promisebook_text/pb_text_is_boundary.not_valid_is_none.
 #[inline]
@@ -316,10 +316,10 @@ pub fn is_boundary(s: &[u8], at: usize) -> Option<bool> {
 /// assert_eq!(text::is_boundary_in(&[0x28, 0xff, 0x29], 1..4, 0), None);
 /// ```
 ///
-/// Cited by rows E32; clause vstd_text/Promises.IsBoundary, vstd_text/Places.Is-char-boundary; contract
-/// promisebook_text::pb_text_is_boundary; law vstd_text/Promised.is-boundary-promised,
-/// vstd_text/Kept.is-boundary-kept, vstd_text/Places.is-char-boundary-is; pinned by
-/// vstd_text/Pinned.is-boundary-pinned; refused text_valid/is_boundary.end_left_out, inside_the_last_scalar,
+/// Cited by rows E32; clause vstd_text/Promises.IsBoundary, vstd_text/Places.IsCharBoundary; contract
+/// promisebook_text::pb_text_is_boundary; law vstd_text/Promised.is_boundary_promised,
+/// vstd_text/Kept.is_boundary_kept, vstd_text/Places.is_char_boundary_is; pinned by
+/// vstd_text/Pinned.is_boundary_pinned; refused text_valid/is_boundary.end_left_out, inside_the_last_scalar,
 /// vstd_text/is_boundary.refusal_may_say_true, vstd_text/is_char_boundary.inside_the_first_scalar,
 /// promisebook_text/pb_text_is_boundary.not_valid_is_none.
 #[inline]
@@ -338,9 +338,9 @@ pub fn is_boundary_in(s: &[u8], part: Range<usize>, at: usize) -> Option<bool> {
 /// assert_eq!(text::split_at(s, 4), None);
 /// ```
 ///
-/// Cited by rows E52; clause vstd_text/Promises.SplitAt, vstd_text/Decoding.Valid-utf8; contract
-/// promisebook_text::pb_text_split_at; law vstd_text/Promised.split-at-promised, vstd_text/Kept.split-at-kept,
-/// vstd_text/Boundaries.valid-utf8-split; pinned by vstd_text/Pinned.split-at-pinned; refused
+/// Cited by rows E52; clause vstd_text/Promises.SplitAt, vstd_text/Decoding.ValidUtf8; contract
+/// promisebook_text::pb_text_split_at; law vstd_text/Promised.split_at_promised, vstd_text/Kept.split_at_kept,
+/// vstd_text/Boundaries.valid_utf8_split; pinned by vstd_text/Pinned.split_at_pinned; refused
 /// text_valid/split_at.first_part_empty, inside_a_scalar, vstd_text/split_at.end_not_mentioned,
 /// promisebook_text/pb_text_split_at.middle_and_end_exchanged.
 #[inline]
@@ -362,9 +362,9 @@ pub fn split_at(s: &[u8], at: usize) -> Option<(&[u8], &[u8])> {
 /// assert_eq!(text::split_at_in(s, 1..13, 4), None);
 /// ```
 ///
-/// Cited by rows E52; clause vstd_text/Promises.SplitAt, vstd_text/Decoding.Valid-utf8; contract
-/// promisebook_text::pb_text_split_at; law vstd_text/Promised.split-at-promised, vstd_text/Kept.split-at-kept,
-/// vstd_text/Boundaries.valid-utf8-split; pinned by vstd_text/Pinned.split-at-pinned; refused
+/// Cited by rows E52; clause vstd_text/Promises.SplitAt, vstd_text/Decoding.ValidUtf8; contract
+/// promisebook_text::pb_text_split_at; law vstd_text/Promised.split_at_promised, vstd_text/Kept.split_at_kept,
+/// vstd_text/Boundaries.valid_utf8_split; pinned by vstd_text/Pinned.split_at_pinned; refused
 /// text_valid/split_at.first_part_empty, inside_a_scalar, vstd_text/split_at.end_not_mentioned,
 /// promisebook_text/pb_text_split_at.middle_and_end_exchanged.
 #[inline]
@@ -383,9 +383,9 @@ pub fn split_at_in(s: &[u8], part: Range<usize>, at: usize) -> Option<(Range<usi
 /// assert!(text::is_ascii(&[]));
 /// ```
 ///
-/// Cited by rows E33; clause vstd_text/Promises.IsAscii, vstd_text/Characters.Is-ascii-chars; contract
-/// promisebook_text::pb_text_is_ascii; law vstd_text/Promised.is-ascii-promised, vstd_text/Kept.is-ascii-kept,
-/// vstd_text/Characters.is-ascii-chars-same; pinned by vstd_text/Pinned.is-ascii-pinned; refused
+/// Cited by rows E33; clause vstd_text/Promises.IsAscii, vstd_text/Characters.IsAsciiChars; contract
+/// promisebook_text::pb_text_is_ascii; law vstd_text/Promised.is_ascii_promised, vstd_text/Kept.is_ascii_kept,
+/// vstd_text/Characters.is_ascii_chars_same; pinned by vstd_text/Pinned.is_ascii_pinned; refused
 /// text_ascii/is_ascii.any_byte, blocks_unread, with_0x80.
 #[inline]
 #[must_use]
@@ -403,9 +403,9 @@ pub fn is_ascii(s: &[u8]) -> bool {
 /// assert_eq!(text::is_ascii_in("()".as_bytes(), 1..3), None);
 /// ```
 ///
-/// Cited by rows E33; clause vstd_text/Promises.IsAscii, vstd_text/Characters.Is-ascii-chars; contract
-/// promisebook_text::pb_text_is_ascii; law vstd_text/Promised.is-ascii-promised, vstd_text/Kept.is-ascii-kept,
-/// vstd_text/Characters.is-ascii-chars-same; pinned by vstd_text/Pinned.is-ascii-pinned; refused
+/// Cited by rows E33; clause vstd_text/Promises.IsAscii, vstd_text/Characters.IsAsciiChars; contract
+/// promisebook_text::pb_text_is_ascii; law vstd_text/Promised.is_ascii_promised, vstd_text/Kept.is_ascii_kept,
+/// vstd_text/Characters.is_ascii_chars_same; pinned by vstd_text/Pinned.is_ascii_pinned; refused
 /// text_ascii/is_ascii.any_byte, blocks_unread, with_0x80.
 #[inline]
 #[must_use]
@@ -424,9 +424,9 @@ pub fn is_ascii_in(s: &[u8], part: Range<usize>) -> Option<bool> {
 /// assert_eq!(text::valid_up_to(&[]), 0);
 /// ```
 ///
-/// Cited by rows E30; clause vstd_text/Promises.ValidUpTo, vstd_text/Places.Partial-valid-utf8; contract
-/// promisebook_text::pb_text_valid_up_to; law vstd_text/Promised.valid-up-to-promised; pinned by
-/// vstd_text/Pinned.valid-up-to-pinned; refused text_valid/valid_up_to.byte_out_of_place, wrong_byte_passed_over,
+/// Cited by rows E30; clause vstd_text/Promises.ValidUpTo, vstd_text/Places.PartialValidUtf8; contract
+/// promisebook_text::pb_text_valid_up_to; law vstd_text/Promised.valid_up_to_promised; pinned by
+/// vstd_text/Pinned.valid_up_to_pinned; refused text_valid/valid_up_to.byte_out_of_place, wrong_byte_passed_over,
 /// vstd_text/valid_up_to.not_the_most.
 #[inline]
 #[must_use]
@@ -447,9 +447,9 @@ pub fn valid_up_to(s: &[u8]) -> usize {
 /// assert_eq!(text::valid_up_to_in("()".as_bytes(), 1..3), None);
 /// ```
 ///
-/// Cited by rows E30; clause vstd_text/Promises.ValidUpTo, vstd_text/Places.Partial-valid-utf8; contract
-/// promisebook_text::pb_text_valid_up_to; law vstd_text/Promised.valid-up-to-promised; pinned by
-/// vstd_text/Pinned.valid-up-to-pinned; refused text_valid/valid_up_to.byte_out_of_place, wrong_byte_passed_over,
+/// Cited by rows E30; clause vstd_text/Promises.ValidUpTo, vstd_text/Places.PartialValidUtf8; contract
+/// promisebook_text::pb_text_valid_up_to; law vstd_text/Promised.valid_up_to_promised; pinned by
+/// vstd_text/Pinned.valid_up_to_pinned; refused text_valid/valid_up_to.byte_out_of_place, wrong_byte_passed_over,
 /// vstd_text/valid_up_to.not_the_most.
 #[inline]
 #[must_use]

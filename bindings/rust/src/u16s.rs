@@ -14,8 +14,8 @@ use core::ops::Range;
 /// assert_eq!(u16s::wrapping_add(65380, 100), 65480);
 /// ```
 ///
-/// Cited by rows A1; clause vstd_integers/Unsigned.wrapping-add; contract promisebook_u16::pb_u16_wrapping_add;
-/// law vstd_integers/Unsigned.wrapping-add-kept; pinned by vstd_integers/Pinned.pinned-unsigned; refused
+/// Cited by rows A1; clause vstd_integers/Unsigned.wrapping_add; contract promisebook_u16::pb_u16_wrapping_add;
+/// law vstd_integers/Unsigned.wrapping_add_kept; pinned by vstd_integers/Pinned.pinned_unsigned; refused
 /// unsigned8_sums/wrapping_add.one_too_few, sum_of_255_wraps.
 #[inline]
 #[must_use]
@@ -32,9 +32,9 @@ pub fn wrapping_add(x: u16, y: u16) -> u16 {
 /// assert_eq!(u16s::wrapping_add_signed(65480, 100), 44);
 /// ```
 ///
-/// Cited by rows A2; clause vstd_integers/Unsigned.wrapping-add-signed; contract
-/// promisebook_u16::pb_u16_wrapping_add_signed; law vstd_integers/Unsigned.wrapping-add-signed-kept; pinned by
-/// vstd_integers/Pinned.pinned-unsigned; refused unsigned8_sums/wrapping_add_signed.other_summand, subtracts.
+/// Cited by rows A2; clause vstd_integers/Unsigned.wrapping_add_signed; contract
+/// promisebook_u16::pb_u16_wrapping_add_signed; law vstd_integers/Unsigned.wrapping_add_signed_kept; pinned by
+/// vstd_integers/Pinned.pinned_unsigned; refused unsigned8_sums/wrapping_add_signed.other_summand, subtracts.
 #[inline]
 #[must_use]
 pub fn wrapping_add_signed(x: u16, y: i16) -> u16 {
@@ -49,8 +49,8 @@ pub fn wrapping_add_signed(x: u16, y: i16) -> u16 {
 /// assert_eq!(u16s::wrapping_sub(5, 3), 2);
 /// ```
 ///
-/// Cited by rows A3; clause vstd_integers/Unsigned.wrapping-sub; contract promisebook_u16::pb_u16_wrapping_sub;
-/// law vstd_integers/Unsigned.wrapping-sub-kept; pinned by vstd_integers/Pinned.pinned-unsigned; refused
+/// Cited by rows A3; clause vstd_integers/Unsigned.wrapping_sub; contract promisebook_u16::pb_u16_wrapping_sub;
+/// law vstd_integers/Unsigned.wrapping_sub_kept; pinned by vstd_integers/Pinned.pinned_unsigned; refused
 /// unsigned8_sums/wrapping_sub.one_too_many, zero_borrows.
 #[inline]
 #[must_use]
@@ -67,8 +67,8 @@ pub fn wrapping_sub(x: u16, y: u16) -> u16 {
 /// assert_eq!(u16s::wrapping_mul(255, 255), 65025);
 /// ```
 ///
-/// Cited by rows A4; clause vstd_integers/Unsigned.wrapping-mul; contract promisebook_u16::pb_u16_wrapping_mul;
-/// law vstd_integers/Unsigned.wrapping-mul-kept; pinned by vstd_integers/Pinned.pinned-unsigned; refused
+/// Cited by rows A4; clause vstd_integers/Unsigned.wrapping_mul; contract promisebook_u16::pb_u16_wrapping_mul;
+/// law vstd_integers/Unsigned.wrapping_mul_kept; pinned by vstd_integers/Pinned.pinned_unsigned; refused
 /// unsigned8_sums/wrapping_mul.modulo_255, square.
 #[inline]
 #[must_use]
@@ -84,8 +84,8 @@ pub fn wrapping_mul(x: u16, y: u16) -> u16 {
 /// assert_eq!(u16s::wrapping_shl(3, 15), 32768);
 /// ```
 ///
-/// Cited by rows A5; clause vstd_integers/Unsigned.wrapping-shl; contract promisebook_u16::pb_u16_wrapping_shl;
-/// law vstd_integers/Unsigned.wrapping-shl-kept; pinned by vstd_integers/Pinned.pinned-unsigned; refused
+/// Cited by rows A5; clause vstd_integers/Unsigned.wrapping_shl; contract promisebook_u16::pb_u16_wrapping_shl;
+/// law vstd_integers/Unsigned.wrapping_shl_kept; pinned by vstd_integers/Pinned.pinned_unsigned; refused
 /// unsigned8_bits/wrapping_shl.by_the_width_is_0, modulo_7.
 #[inline]
 #[must_use]
@@ -100,8 +100,8 @@ pub fn wrapping_shl(x: u16, rhs: u32) -> u16 {
 /// assert_eq!(u16s::wrapping_shr(32768, 31), 1);
 /// ```
 ///
-/// Cited by rows A6; clause vstd_integers/Unsigned.wrapping-shr; contract promisebook_u16::pb_u16_wrapping_shr;
-/// law vstd_integers/Unsigned.wrapping-shr-kept; pinned by vstd_integers/Pinned.pinned-unsigned; refused
+/// Cited by rows A6; clause vstd_integers/Unsigned.wrapping_shr; contract promisebook_u16::pb_u16_wrapping_shr;
+/// law vstd_integers/Unsigned.wrapping_shr_kept; pinned by vstd_integers/Pinned.pinned_unsigned; refused
 /// unsigned8_bits/wrapping_shr.by_the_width_is_0, modulo_7.
 #[inline]
 #[must_use]
@@ -117,8 +117,8 @@ pub fn wrapping_shr(x: u16, rhs: u32) -> u16 {
 /// assert_eq!(u16s::checked_add(65380, 100), Some(65480));
 /// ```
 ///
-/// Cited by rows A7; clause vstd_integers/Unsigned.checked-add; contract promisebook_u16::pb_u16_checked_add; law
-/// vstd_integers/Unsigned.checked-add-kept; pinned by vstd_integers/Pinned.pinned-unsigned-option; refused
+/// Cited by rows A7; clause vstd_integers/Unsigned.checked_add; contract promisebook_u16::pb_u16_checked_add; law
+/// vstd_integers/Unsigned.checked_add_kept; pinned by vstd_integers/Pinned.pinned_unsigned_option; refused
 /// unsigned8_sums/checked_add.second_summand_alone, sum_of_255_refused,
 /// vstd_integers/checked_add.largest_refused.
 #[inline]
@@ -137,9 +137,9 @@ pub fn checked_add(x: u16, y: u16) -> Option<u16> {
 /// assert_eq!(u16s::checked_add_signed(65480, 100), None);
 /// ```
 ///
-/// Cited by rows A8; clause vstd_integers/Unsigned.checked-add-signed; contract
-/// promisebook_u16::pb_u16_checked_add_signed; law vstd_integers/Unsigned.checked-add-signed-kept; pinned by
-/// vstd_integers/Pinned.pinned-unsigned-option; refused unsigned8_sums/checked_add_signed.first_summand,
+/// Cited by rows A8; clause vstd_integers/Unsigned.checked_add_signed; contract
+/// promisebook_u16::pb_u16_checked_add_signed; law vstd_integers/Unsigned.checked_add_signed_kept; pinned by
+/// vstd_integers/Pinned.pinned_unsigned_option; refused unsigned8_sums/checked_add_signed.first_summand,
 /// other_side.
 #[inline]
 #[must_use]
@@ -156,8 +156,8 @@ pub fn checked_add_signed(x: u16, y: i16) -> Option<u16> {
 /// assert_eq!(u16s::checked_sub(5, 3), Some(2));
 /// ```
 ///
-/// Cited by rows A9; clause vstd_integers/Unsigned.checked-sub; contract promisebook_u16::pb_u16_checked_sub; law
-/// vstd_integers/Unsigned.checked-sub-kept; pinned by vstd_integers/Pinned.pinned-unsigned-option; refused
+/// Cited by rows A9; clause vstd_integers/Unsigned.checked_sub; contract promisebook_u16::pb_u16_checked_sub; law
+/// vstd_integers/Unsigned.checked_sub_kept; pinned by vstd_integers/Pinned.pinned_unsigned_option; refused
 /// unsigned8_sums/checked_sub.nothing_taken, other_way_round.
 #[inline]
 #[must_use]
@@ -175,8 +175,8 @@ pub fn checked_sub(x: u16, y: u16) -> Option<u16> {
 /// assert_eq!(u16s::checked_mul(255, 255), Some(65025));
 /// ```
 ///
-/// Cited by rows A10; clause vstd_integers/Unsigned.checked-mul; contract promisebook_u16::pb_u16_checked_mul;
-/// law vstd_integers/Unsigned.checked-mul-kept; pinned by vstd_integers/Pinned.pinned-unsigned-option; refused
+/// Cited by rows A10; clause vstd_integers/Unsigned.checked_mul; contract promisebook_u16::pb_u16_checked_mul;
+/// law vstd_integers/Unsigned.checked_mul_kept; pinned by vstd_integers/Pinned.pinned_unsigned_option; refused
 /// unsigned8_sums/checked_mul.larger_quotient_taken, square.
 #[inline]
 #[must_use]
@@ -194,9 +194,9 @@ pub fn checked_mul(x: u16, y: u16) -> Option<u16> {
 /// assert_eq!(u16s::checked_next_multiple_of(7, 0), None);
 /// ```
 ///
-/// Cited by rows A11; clause vstd_integers/Unsigned.checked-next-multiple-of; contract
-/// promisebook_u16::pb_u16_checked_next_multiple_of; law vstd_integers/Unsigned.checked-next-multiple-of-kept;
-/// pinned by vstd_integers/Pinned.pinned-unsigned-option; refused
+/// Cited by rows A11; clause vstd_integers/Unsigned.checked_next_multiple_of; contract
+/// promisebook_u16::pb_u16_checked_next_multiple_of; law vstd_integers/Unsigned.checked_next_multiple_of_kept;
+/// pinned by vstd_integers/Pinned.pinned_unsigned_option; refused
 /// unsigned8_division/checked_next_multiple_of.always_a_multiple, first_multiple,
 /// vstd_integers/checked_next_multiple_of.zero_not_refused, promisebook_u8/checked_next_multiple_of.nine_bits.
 #[inline]
@@ -215,8 +215,8 @@ pub fn checked_next_multiple_of(x: u16, y: u16) -> Option<u16> {
 /// assert_eq!(u16s::checked_div(7, 0), None);
 /// ```
 ///
-/// Cited by rows A12; clause vstd_integers/Unsigned.checked-div; contract promisebook_u16::pb_u16_checked_div;
-/// law vstd_integers/Unsigned.checked-div-kept; pinned by vstd_integers/Pinned.pinned-unsigned-option; refused
+/// Cited by rows A12; clause vstd_integers/Unsigned.checked_div; contract promisebook_u16::pb_u16_checked_div;
+/// law vstd_integers/Unsigned.checked_div_kept; pinned by vstd_integers/Pinned.pinned_unsigned_option; refused
 /// unsigned8_division/checked_div.by_zero_is_0, other_dividend.
 #[inline]
 #[must_use]
@@ -234,9 +234,9 @@ pub fn checked_div(x: u16, y: u16) -> Option<u16> {
 /// assert_eq!(u16s::checked_div_euclid(7, 0), None);
 /// ```
 ///
-/// Cited by rows A13; clause vstd_integers/Unsigned.checked-div; contract
-/// promisebook_u16::pb_u16_checked_div_euclid; law vstd_integers/Unsigned.checked-div-euclid-kept; pinned by
-/// vstd_integers/Pinned.pinned-unsigned-option; refused unsigned8_division/checked_div_euclid.by_zero_is_0,
+/// Cited by rows A13; clause vstd_integers/Unsigned.checked_div; contract
+/// promisebook_u16::pb_u16_checked_div_euclid; law vstd_integers/Unsigned.checked_div_euclid_kept; pinned by
+/// vstd_integers/Pinned.pinned_unsigned_option; refused unsigned8_division/checked_div_euclid.by_zero_is_0,
 /// other_way_round.
 #[inline]
 #[must_use]
@@ -254,8 +254,8 @@ pub fn checked_div_euclid(x: u16, y: u16) -> Option<u16> {
 /// assert_eq!(u16s::checked_rem(7, 0), None);
 /// ```
 ///
-/// Cited by rows A14; clause vstd_integers/Unsigned.checked-rem; contract promisebook_u16::pb_u16_checked_rem;
-/// law vstd_integers/Unsigned.checked-rem-kept; pinned by vstd_integers/Pinned.pinned-unsigned-option; refused
+/// Cited by rows A14; clause vstd_integers/Unsigned.checked_rem; contract promisebook_u16::pb_u16_checked_rem;
+/// law vstd_integers/Unsigned.checked_rem_kept; pinned by vstd_integers/Pinned.pinned_unsigned_option; refused
 /// unsigned8_division/checked_rem.by_zero_is_dividend, other_dividend.
 #[inline]
 #[must_use]
@@ -273,9 +273,9 @@ pub fn checked_rem(x: u16, y: u16) -> Option<u16> {
 /// assert_eq!(u16s::checked_rem_euclid(7, 0), None);
 /// ```
 ///
-/// Cited by rows A15; clause vstd_integers/Unsigned.checked-rem; contract
-/// promisebook_u16::pb_u16_checked_rem_euclid; law vstd_integers/Unsigned.checked-rem-euclid-kept; pinned by
-/// vstd_integers/Pinned.pinned-unsigned-option; refused
+/// Cited by rows A15; clause vstd_integers/Unsigned.checked_rem; contract
+/// promisebook_u16::pb_u16_checked_rem_euclid; law vstd_integers/Unsigned.checked_rem_euclid_kept; pinned by
+/// vstd_integers/Pinned.pinned_unsigned_option; refused
 /// unsigned8_division/checked_rem_euclid.by_zero_is_dividend, other_way_round.
 #[inline]
 #[must_use]
@@ -292,9 +292,9 @@ pub fn checked_rem_euclid(x: u16, y: u16) -> Option<u16> {
 /// assert_eq!(u16s::saturating_add(65380, 100), 65480);
 /// ```
 ///
-/// Cited by rows A16; clause vstd_integers/Unsigned.saturating-add; contract
-/// promisebook_u16::pb_u16_saturating_add; law vstd_integers/Unsigned.saturating-add-kept; pinned by
-/// vstd_integers/Pinned.pinned-unsigned; refused unsigned8_sums/saturating_add.first_summand, wraps_to_0.
+/// Cited by rows A16; clause vstd_integers/Unsigned.saturating_add; contract
+/// promisebook_u16::pb_u16_saturating_add; law vstd_integers/Unsigned.saturating_add_kept; pinned by
+/// vstd_integers/Pinned.pinned_unsigned; refused unsigned8_sums/saturating_add.first_summand, wraps_to_0.
 #[inline]
 #[must_use]
 pub fn saturating_add(x: u16, y: u16) -> u16 {
@@ -309,9 +309,9 @@ pub fn saturating_add(x: u16, y: u16) -> u16 {
 /// assert_eq!(u16s::saturating_sub(5, 3), 2);
 /// ```
 ///
-/// Cited by rows A17; clause vstd_integers/Unsigned.saturating-sub; contract
-/// promisebook_u16::pb_u16_saturating_sub; law vstd_integers/Unsigned.saturating-sub-kept; pinned by
-/// vstd_integers/Pinned.pinned-unsigned; refused unsigned8_sums/saturating_sub.other_side, stops_at_1,
+/// Cited by rows A17; clause vstd_integers/Unsigned.saturating_sub; contract
+/// promisebook_u16::pb_u16_saturating_sub; law vstd_integers/Unsigned.saturating_sub_kept; pinned by
+/// vstd_integers/Pinned.pinned_unsigned; refused unsigned8_sums/saturating_sub.other_side, stops_at_1,
 /// promisebook_u8/saturating_sub.wraps.
 #[inline]
 #[must_use]
@@ -328,9 +328,9 @@ pub fn saturating_sub(x: u16, y: u16) -> u16 {
 /// assert_eq!(u16s::saturating_mul(255, 255), 65025);
 /// ```
 ///
-/// Cited by rows A18; clause vstd_integers/Unsigned.saturating-mul; contract
-/// promisebook_u16::pb_u16_saturating_mul; law vstd_integers/Unsigned.saturating-mul-kept; pinned by
-/// vstd_integers/Pinned.pinned-unsigned; refused unsigned8_sums/saturating_mul.square, wraps_to_0,
+/// Cited by rows A18; clause vstd_integers/Unsigned.saturating_mul; contract
+/// promisebook_u16::pb_u16_saturating_mul; law vstd_integers/Unsigned.saturating_mul_kept; pinned by
+/// vstd_integers/Pinned.pinned_unsigned; refused unsigned8_sums/saturating_mul.square, wraps_to_0,
 /// vstd_integers/saturating_mul.wraps.
 #[inline]
 #[must_use]
@@ -348,9 +348,9 @@ pub fn saturating_mul(x: u16, y: u16) -> u16 {
 /// assert!(!u16s::is_multiple_of(7, 0));
 /// ```
 ///
-/// Cited by rows A19; clause vstd_integers/Unsigned.is-multiple-of; contract
-/// promisebook_u16::pb_u16_is_multiple_of; law vstd_integers/Unsigned.is-multiple-of-kept; pinned by
-/// vstd_integers/Pinned.pinned-equation; refused unsigned8_division/is_multiple_of.all_of_zero, remainder_of_1,
+/// Cited by rows A19; clause vstd_integers/Unsigned.is_multiple_of; contract
+/// promisebook_u16::pb_u16_is_multiple_of; law vstd_integers/Unsigned.is_multiple_of_kept; pinned by
+/// vstd_integers/Pinned.pinned_equation; refused unsigned8_division/is_multiple_of.all_of_zero, remainder_of_1,
 /// vstd_integers/is_multiple_of.all_of_zero.
 #[inline]
 #[must_use]
@@ -367,7 +367,7 @@ pub fn is_multiple_of(x: u16, y: u16) -> bool {
 /// ```
 ///
 /// Cited by rows A35; clause vstd_integers/Compare.clone; contract promisebook_u16::pb_u16_clone; law
-/// vstd_integers/Compare.clone-kept; pinned by vstd_integers/Pinned.pinned-unsigned, pinned-equation; refused
+/// vstd_integers/Compare.clone_kept; pinned by vstd_integers/Pinned.pinned_unsigned, pinned_equation; refused
 /// promisebook_u8/clone.always_0, promisebook_i8/clone.always_0.
 #[inline]
 #[must_use]
@@ -385,7 +385,7 @@ pub fn clone(x: u16) -> u16 {
 /// ```
 ///
 /// Cited by rows A36; clause vstd_integers/Compare.eq; contract promisebook_u16::pb_u16_eq; law
-/// vstd_integers/Compare.eq-kept; pinned by vstd_integers/Pinned.pinned-equation; refused
+/// vstd_integers/Compare.eq_kept; pinned by vstd_integers/Pinned.pinned_equation; refused
 /// ordering/is_eq.less_is_equal, never.
 #[inline]
 #[must_use]
@@ -403,7 +403,7 @@ pub fn eq(x: u16, y: u16) -> bool {
 /// ```
 ///
 /// Cited by rows A37; clause vstd_integers/Compare.ne; contract promisebook_u16::pb_u16_ne; law
-/// vstd_integers/Compare.ne-kept; pinned by vstd_integers/Pinned.pinned-equation; refused
+/// vstd_integers/Compare.ne_kept; pinned by vstd_integers/Pinned.pinned_equation; refused
 /// ordering/is_ne.equal_differs, greater_only.
 #[inline]
 #[must_use]
@@ -421,7 +421,7 @@ pub fn ne(x: u16, y: u16) -> bool {
 /// ```
 ///
 /// Cited by rows A40; clause vstd_integers/Compare.lt; contract promisebook_u16::pb_u16_lt; law
-/// vstd_integers/Compare.lt-kept; pinned by vstd_integers/Pinned.pinned-equation; refused
+/// vstd_integers/Compare.lt_kept; pinned by vstd_integers/Pinned.pinned_equation; refused
 /// ordering/is_lt.equal_is_less, greater_is_less.
 #[inline]
 #[must_use]
@@ -439,7 +439,7 @@ pub fn lt(x: u16, y: u16) -> bool {
 /// ```
 ///
 /// Cited by rows A41; clause vstd_integers/Compare.le; contract promisebook_u16::pb_u16_le; law
-/// vstd_integers/Compare.le-kept; pinned by vstd_integers/Pinned.pinned-equation; refused
+/// vstd_integers/Compare.le_kept; pinned by vstd_integers/Pinned.pinned_equation; refused
 /// ordering/is_le.equal_is_more, greater_is_at_most, vstd_integers/le.equal_is_more.
 #[inline]
 #[must_use]
@@ -457,7 +457,7 @@ pub fn le(x: u16, y: u16) -> bool {
 /// ```
 ///
 /// Cited by rows A42; clause vstd_integers/Compare.gt; contract promisebook_u16::pb_u16_gt; law
-/// vstd_integers/Compare.gt-kept; pinned by vstd_integers/Pinned.pinned-equation; refused
+/// vstd_integers/Compare.gt_kept; pinned by vstd_integers/Pinned.pinned_equation; refused
 /// ordering/is_gt.equal_is_greater, less_is_greater.
 #[inline]
 #[must_use]
@@ -475,7 +475,7 @@ pub fn gt(x: u16, y: u16) -> bool {
 /// ```
 ///
 /// Cited by rows A43; clause vstd_integers/Compare.ge; contract promisebook_u16::pb_u16_ge; law
-/// vstd_integers/Compare.ge-kept; pinned by vstd_integers/Pinned.pinned-equation; refused
+/// vstd_integers/Compare.ge_kept; pinned by vstd_integers/Pinned.pinned_equation; refused
 /// ordering/is_ge.equal_is_less, less_is_at_least.
 #[inline]
 #[must_use]
@@ -494,7 +494,7 @@ pub fn ge(x: u16, y: u16) -> bool {
 /// ```
 ///
 /// Cited by rows A38; clause vstd_integers/Compare.cmp; contract promisebook_u16::pb_u16_cmp; law
-/// vstd_integers/Compare.cmp-kept; pinned by vstd_integers/Pinned.pinned-equation; refused
+/// vstd_integers/Compare.cmp_kept; pinned by vstd_integers/Pinned.pinned_equation; refused
 /// ordering/number.greater_is_0, less_is_1, unsigned8_order/compare.equal_is_greater, less_is_greater,
 /// signed8_order/compare.equal_is_greater, less_is_greater.
 #[inline]
@@ -514,7 +514,7 @@ pub fn cmp(x: u16, y: u16) -> Ordering {
 /// ```
 ///
 /// Cited by rows A39; clause vstd_integers/Compare.cmp; contract promisebook_u16::pb_u16_partial_cmp; law
-/// vstd_integers/Compare.cmp-kept; pinned by vstd_integers/Pinned.pinned-option.
+/// vstd_integers/Compare.cmp_kept; pinned by vstd_integers/Pinned.pinned_option.
 #[inline]
 #[must_use]
 pub fn partial_cmp(x: u16, y: u16) -> Option<Ordering> {
@@ -532,9 +532,9 @@ pub fn partial_cmp(x: u16, y: u16) -> Option<Ordering> {
 /// assert_eq!(u16s::leading_zeros(65535), 0);
 /// ```
 ///
-/// Cited by rows B3; clause vstd_zeros/Zeros.vstd-leading-zeros; contract
-/// promisebook_zeros::pb_u16_leading_zeros; law vstd_zeros/Zeros.vstd-leading-zeros-is; pinned by
-/// vstd_integers/Pinned.pinned-equation; refused zeros/leading_zeros_u8.highest_bit_is_ignored,
+/// Cited by rows B3; clause vstd_zeros/Zeros.vstd_leading_zeros; contract
+/// promisebook_zeros::pb_u16_leading_zeros; law vstd_zeros/Zeros.vstd_leading_zeros_is; pinned by
+/// vstd_integers/Pinned.pinned_equation; refused zeros/leading_zeros_u8.highest_bit_is_ignored,
 /// zero_has_one_less, vstd_zeros/leading_zeros.zero_has_one_less, promisebook_zeros/leading_zeros.of_eight_bits.
 #[inline]
 #[must_use]
@@ -552,8 +552,8 @@ pub fn leading_zeros(i: u16) -> u32 {
 /// assert_eq!(u16s::leading_ones(65535), 16);
 /// ```
 ///
-/// Cited by rows B4; clause vstd_zeros/Zeros.vstd-leading-ones; contract promisebook_zeros::pb_u16_leading_ones;
-/// law vstd_zeros/Zeros.vstd-leading-ones-is; pinned by vstd_integers/Pinned.pinned-equation; refused
+/// Cited by rows B4; clause vstd_zeros/Zeros.vstd_leading_ones; contract promisebook_zeros::pb_u16_leading_ones;
+/// law vstd_zeros/Zeros.vstd_leading_ones_is; pinned by vstd_integers/Pinned.pinned_equation; refused
 /// zeros/leading_ones_u8.highest_bit_counts_as_one, zeros_are_counted, promisebook_zeros/leading_ones.zeros.
 #[inline]
 #[must_use]
@@ -571,9 +571,9 @@ pub fn leading_ones(i: u16) -> u32 {
 /// assert_eq!(u16s::trailing_zeros(65535), 0);
 /// ```
 ///
-/// Cited by rows B1; clause vstd_zeros/Zeros.vstd-trailing-zeros; contract
-/// promisebook_zeros::pb_u16_trailing_zeros; law vstd_zeros/Zeros.vstd-trailing-zeros-is; pinned by
-/// vstd_integers/Pinned.pinned-equation; refused zeros/trailing_zeros_u8.lowest_bit_is_ignored,
+/// Cited by rows B1; clause vstd_zeros/Zeros.vstd_trailing_zeros; contract
+/// promisebook_zeros::pb_u16_trailing_zeros; law vstd_zeros/Zeros.vstd_trailing_zeros_is; pinned by
+/// vstd_integers/Pinned.pinned_equation; refused zeros/trailing_zeros_u8.lowest_bit_is_ignored,
 /// zero_has_one_less, vstd_zeros/trailing_zeros.ones_are_counted.
 #[inline]
 #[must_use]
@@ -591,9 +591,9 @@ pub fn trailing_zeros(i: u16) -> u32 {
 /// assert_eq!(u16s::trailing_ones(65535), 16);
 /// ```
 ///
-/// Cited by rows B2; clause vstd_zeros/Zeros.vstd-trailing-ones; contract
-/// promisebook_zeros::pb_u16_trailing_ones; law vstd_zeros/Zeros.vstd-trailing-ones-is; pinned by
-/// vstd_integers/Pinned.pinned-equation; refused zeros/trailing_ones_u8.lowest_bit_counts_as_one,
+/// Cited by rows B2; clause vstd_zeros/Zeros.vstd_trailing_ones; contract
+/// promisebook_zeros::pb_u16_trailing_ones; law vstd_zeros/Zeros.vstd_trailing_ones_is; pinned by
+/// vstd_integers/Pinned.pinned_equation; refused zeros/trailing_ones_u8.lowest_bit_counts_as_one,
 /// zeros_are_counted, vstd_zeros/trailing_ones.of_the_number.
 #[inline]
 #[must_use]
@@ -609,9 +609,9 @@ pub fn trailing_ones(i: u16) -> u32 {
 /// assert_eq!(u16s::from_le_bytes(&[1]), None);
 /// ```
 ///
-/// Cited by rows C1, C2; clause vstd_number_bytes/Bytes.from-le-bytes, spec-from-le-bytes; contract
-/// promisebook_number_bytes::pb_u16_from_le_bytes; law vstd_number_bytes/Bytes.from-le-bytes-kept; pinned by
-/// vstd_integers/Pinned.pinned-unsigned-option; refused number_bytes16/from_le_bytes.two_bytes_for_three,
+/// Cited by rows C1, C2; clause vstd_number_bytes/Bytes.from_le_bytes, spec_from_le_bytes; contract
+/// promisebook_number_bytes::pb_u16_from_le_bytes; law vstd_number_bytes/Bytes.from_le_bytes_kept; pinned by
+/// vstd_integers/Pinned.pinned_unsigned_option; refused number_bytes16/from_le_bytes.two_bytes_for_three,
 /// vstd_number_bytes/from_le_bytes.any_length, one_byte_fewer, number_bytes16/from_le_bytes.highest_first,
 /// vstd_number_bytes/from_le_bytes.first_byte_last.
 #[inline]
@@ -631,9 +631,9 @@ pub fn from_le_bytes(s: &[u8]) -> Option<u16> {
 /// assert_eq!(u16s::from_le_bytes_in(&[9, 1, 9], 1..4), None);
 /// ```
 ///
-/// Cited by rows C1, C2; clause vstd_number_bytes/Bytes.from-le-bytes, spec-from-le-bytes; contract
-/// promisebook_number_bytes::pb_u16_from_le_bytes; law vstd_number_bytes/Bytes.from-le-bytes-kept; pinned by
-/// vstd_integers/Pinned.pinned-unsigned-option; refused number_bytes16/from_le_bytes.two_bytes_for_three,
+/// Cited by rows C1, C2; clause vstd_number_bytes/Bytes.from_le_bytes, spec_from_le_bytes; contract
+/// promisebook_number_bytes::pb_u16_from_le_bytes; law vstd_number_bytes/Bytes.from_le_bytes_kept; pinned by
+/// vstd_integers/Pinned.pinned_unsigned_option; refused number_bytes16/from_le_bytes.two_bytes_for_three,
 /// vstd_number_bytes/from_le_bytes.any_length, one_byte_fewer, number_bytes16/from_le_bytes.highest_first,
 /// vstd_number_bytes/from_le_bytes.first_byte_last.
 #[inline]
@@ -649,9 +649,9 @@ pub fn from_le_bytes_in(s: &[u8], part: Range<usize>) -> Option<u16> {
 /// assert_eq!(u16s::to_le_bytes(258), [2, 1]);
 /// ```
 ///
-/// Cited by rows C3; clause vstd_number_bytes/Bytes.spec-to-le-bytes; contract
-/// promisebook_number_bytes::pb_u16_to_le_bytes; law vstd_number_bytes/Bytes.to-le-bytes-is; pinned by
-/// theory_lists/Written.pinned-writes; refused number_bytes16/to_le_bytes.highest_first, lowest_twice,
+/// Cited by rows C3; clause vstd_number_bytes/Bytes.spec_to_le_bytes; contract
+/// promisebook_number_bytes::pb_u16_to_le_bytes; law vstd_number_bytes/Bytes.to_le_bytes_is; pinned by
+/// theory_lists/Written.pinned_writes; refused number_bytes16/to_le_bytes.highest_first, lowest_twice,
 /// number_bytes16/write_le_bytes.elsewhere, one_place_too_far, byte_behind_changes,
 /// vstd_number_bytes/to_le_bytes.lowest_byte_only, seven_bits, promisebook_number_bytes/to_le_bytes.four_bytes.
 #[inline]
@@ -675,9 +675,9 @@ pub fn to_le_bytes(x: u16) -> [u8; 2] {
 /// assert_eq!(s, [0, 0, 0]);
 /// ```
 ///
-/// Cited by rows C3; clause vstd_number_bytes/Bytes.spec-to-le-bytes; contract
-/// promisebook_number_bytes::pb_u16_to_le_bytes; law vstd_number_bytes/Bytes.to-le-bytes-is; pinned by
-/// theory_lists/Written.pinned-writes; refused number_bytes16/to_le_bytes.highest_first, lowest_twice,
+/// Cited by rows C3; clause vstd_number_bytes/Bytes.spec_to_le_bytes; contract
+/// promisebook_number_bytes::pb_u16_to_le_bytes; law vstd_number_bytes/Bytes.to_le_bytes_is; pinned by
+/// theory_lists/Written.pinned_writes; refused number_bytes16/to_le_bytes.highest_first, lowest_twice,
 /// number_bytes16/write_le_bytes.elsewhere, one_place_too_far, byte_behind_changes,
 /// vstd_number_bytes/to_le_bytes.lowest_byte_only, seven_bits, promisebook_number_bytes/to_le_bytes.four_bytes.
 #[inline]
@@ -694,9 +694,9 @@ pub fn to_le_bytes_in(s: &mut [u8], part: Range<usize>, x: u16) -> Option<()> {
 /// assert_eq!(u16s::from_be_bytes(&[2]), None);
 /// ```
 ///
-/// Cited by rows C67; clause theory_digits/Number.numberHigh; contract
-/// promisebook_number_bytes::pb_u16_from_be_bytes; law theory_digits/Reading.numberHigh-of-digitsHigh; pinned by
-/// vstd_integers/Pinned.pinned-unsigned-option; refused number_bytes16/from_be_bytes.lowest_first,
+/// Cited by rows C67; clause theory_digits/Number.number_high; contract
+/// promisebook_number_bytes::pb_u16_from_be_bytes; law theory_digits/Reading.number_high_of_digits_high; pinned
+/// by vstd_integers/Pinned.pinned_unsigned_option; refused number_bytes16/from_be_bytes.lowest_first,
 /// two_bytes_for_one.
 #[inline]
 #[must_use]
@@ -715,9 +715,9 @@ pub fn from_be_bytes(s: &[u8]) -> Option<u16> {
 /// assert_eq!(u16s::from_be_bytes_in(&[9, 2, 9], 1..4), None);
 /// ```
 ///
-/// Cited by rows C67; clause theory_digits/Number.numberHigh; contract
-/// promisebook_number_bytes::pb_u16_from_be_bytes; law theory_digits/Reading.numberHigh-of-digitsHigh; pinned by
-/// vstd_integers/Pinned.pinned-unsigned-option; refused number_bytes16/from_be_bytes.lowest_first,
+/// Cited by rows C67; clause theory_digits/Number.number_high; contract
+/// promisebook_number_bytes::pb_u16_from_be_bytes; law theory_digits/Reading.number_high_of_digits_high; pinned
+/// by vstd_integers/Pinned.pinned_unsigned_option; refused number_bytes16/from_be_bytes.lowest_first,
 /// two_bytes_for_one.
 #[inline]
 #[must_use]
@@ -732,9 +732,9 @@ pub fn from_be_bytes_in(s: &[u8], part: Range<usize>) -> Option<u16> {
 /// assert_eq!(u16s::to_be_bytes(258), [1, 2]);
 /// ```
 ///
-/// Cited by rows C68; clause theory_digits/Digits.digitsHigh; contract
-/// promisebook_number_bytes::pb_u16_to_be_bytes; law theory_digits/Reading.digitsHigh-of-numberHigh; pinned by
-/// theory_lists/Written.pinned-writes; refused number_bytes16/to_be_bytes.highest_twice, lowest_first,
+/// Cited by rows C68; clause theory_digits/Digits.digits_high; contract
+/// promisebook_number_bytes::pb_u16_to_be_bytes; law theory_digits/Reading.digits_high_of_number_high; pinned by
+/// theory_lists/Written.pinned_writes; refused number_bytes16/to_be_bytes.highest_twice, lowest_first,
 /// number_bytes16/write_be_bytes.complement, last_place_is_refused, byte_changes_twice,
 /// promisebook_number_bytes/to_be_bytes.lowest_first.
 #[inline]
@@ -758,9 +758,9 @@ pub fn to_be_bytes(x: u16) -> [u8; 2] {
 /// assert_eq!(s, [0, 0, 0]);
 /// ```
 ///
-/// Cited by rows C68; clause theory_digits/Digits.digitsHigh; contract
-/// promisebook_number_bytes::pb_u16_to_be_bytes; law theory_digits/Reading.digitsHigh-of-numberHigh; pinned by
-/// theory_lists/Written.pinned-writes; refused number_bytes16/to_be_bytes.highest_twice, lowest_first,
+/// Cited by rows C68; clause theory_digits/Digits.digits_high; contract
+/// promisebook_number_bytes::pb_u16_to_be_bytes; law theory_digits/Reading.digits_high_of_number_high; pinned by
+/// theory_lists/Written.pinned_writes; refused number_bytes16/to_be_bytes.highest_twice, lowest_first,
 /// number_bytes16/write_be_bytes.complement, last_place_is_refused, byte_changes_twice,
 /// promisebook_number_bytes/to_be_bytes.lowest_first.
 #[inline]
@@ -787,9 +787,9 @@ pub fn to_be_bytes_in(s: &mut [u8], part: Range<usize>, x: u16) -> Option<()> {
 /// assert_eq!(u16s::read_decimal(b"=42"), Err(NotDecimal::NoNumber));
 /// ```
 ///
-/// Cited by rows F6; clause theory_decimal/Read.naturalIn, readIn; contract
-/// promisebook_decimal::pb_u16_read_decimal; law theory_decimal/Reading.so-far-all, no-text, past-the-end; pinned
-/// by vstd_integers/Pinned.pinned-unsigned-option; refused decimal_read/read_u64.colon_is_a_figure,
+/// Cited by rows F6; clause theory_decimal/Read.natural_in, read_in; contract
+/// promisebook_decimal::pb_u16_read_decimal; law theory_decimal/Reading.so_far_all, no_text, past_the_end; pinned
+/// by vstd_integers/Pinned.pinned_unsigned_option; refused decimal_read/read_u64.colon_is_a_figure,
 /// largest_number_refused, last_figure_left_out, nothing_is_zero, runs_over,
 /// decimal_read/read_u8.largest_number_refused, too_large_taken, promisebook_decimal/read_decimal.too_large.
 #[inline]
@@ -811,9 +811,9 @@ pub fn read_decimal(s: &[u8]) -> Result<u16, NotDecimal> {
 /// assert_eq!(u16s::read_decimal_in(s, 4..2), None);
 /// ```
 ///
-/// Cited by rows F6; clause theory_decimal/Read.naturalIn, readIn; contract
-/// promisebook_decimal::pb_u16_read_decimal; law theory_decimal/Reading.so-far-all, no-text, past-the-end; pinned
-/// by vstd_integers/Pinned.pinned-unsigned-option; refused decimal_read/read_u64.colon_is_a_figure,
+/// Cited by rows F6; clause theory_decimal/Read.natural_in, read_in; contract
+/// promisebook_decimal::pb_u16_read_decimal; law theory_decimal/Reading.so_far_all, no_text, past_the_end; pinned
+/// by vstd_integers/Pinned.pinned_unsigned_option; refused decimal_read/read_u64.colon_is_a_figure,
 /// largest_number_refused, last_figure_left_out, nothing_is_zero, runs_over,
 /// decimal_read/read_u8.largest_number_refused, too_large_taken, promisebook_decimal/read_decimal.too_large.
 #[inline]
@@ -848,8 +848,8 @@ pub fn read_decimal_in(s: &[u8], part: Range<usize>) -> Option<Result<u16, NotDe
 /// ```
 ///
 /// Cited by rows F8; clause theory_decimal/Written.Shows, natural; contract
-/// promisebook_decimal::pb_u16_write_decimal; law theory_decimal/Showing.natural-shown; pinned by
-/// theory_decimal/Showing.pinned-shows; refused decimal_write/write_u64.last_place_refused, ten_in_one_place,
+/// promisebook_decimal::pb_u16_write_decimal; law theory_decimal/Showing.natural_shown; pinned by
+/// theory_decimal/Showing.pinned_shows; refused decimal_write/write_u64.last_place_refused, ten_in_one_place,
 /// tens_lost, theory_decimal/shows.refusal_counts_anything.
 #[inline]
 #[must_use]
@@ -881,8 +881,8 @@ pub fn write_decimal(s: &mut [u8], x: u16) -> Option<usize> {
 /// ```
 ///
 /// Cited by rows F8; clause theory_decimal/Written.Shows, natural; contract
-/// promisebook_decimal::pb_u16_write_decimal; law theory_decimal/Showing.natural-shown; pinned by
-/// theory_decimal/Showing.pinned-shows; refused decimal_write/write_u64.last_place_refused, ten_in_one_place,
+/// promisebook_decimal::pb_u16_write_decimal; law theory_decimal/Showing.natural_shown; pinned by
+/// theory_decimal/Showing.pinned_shows; refused decimal_write/write_u64.last_place_refused, ten_in_one_place,
 /// tens_lost, theory_decimal/shows.refusal_counts_anything.
 #[inline]
 #[must_use]

@@ -14,8 +14,8 @@ use core::ops::Range;
 /// assert_eq!(u64s::wrapping_add(18446744073709551460, 100), 18446744073709551560);
 /// ```
 ///
-/// Cited by rows A1; clause vstd_integers/Unsigned.wrapping-add; contract promisebook_u64::pb_u64_wrapping_add;
-/// law vstd_integers/Unsigned.wrapping-add-kept; pinned by vstd_integers/Pinned.pinned-unsigned; refused
+/// Cited by rows A1; clause vstd_integers/Unsigned.wrapping_add; contract promisebook_u64::pb_u64_wrapping_add;
+/// law vstd_integers/Unsigned.wrapping_add_kept; pinned by vstd_integers/Pinned.pinned_unsigned; refused
 /// unsigned8_sums/wrapping_add.one_too_few, sum_of_255_wraps.
 #[inline]
 #[must_use]
@@ -32,9 +32,9 @@ pub fn wrapping_add(x: u64, y: u64) -> u64 {
 /// assert_eq!(u64s::wrapping_add_signed(18446744073709551560, 100), 44);
 /// ```
 ///
-/// Cited by rows A2; clause vstd_integers/Unsigned.wrapping-add-signed; contract
-/// promisebook_u64::pb_u64_wrapping_add_signed; law vstd_integers/Unsigned.wrapping-add-signed-kept; pinned by
-/// vstd_integers/Pinned.pinned-unsigned; refused unsigned8_sums/wrapping_add_signed.other_summand, subtracts.
+/// Cited by rows A2; clause vstd_integers/Unsigned.wrapping_add_signed; contract
+/// promisebook_u64::pb_u64_wrapping_add_signed; law vstd_integers/Unsigned.wrapping_add_signed_kept; pinned by
+/// vstd_integers/Pinned.pinned_unsigned; refused unsigned8_sums/wrapping_add_signed.other_summand, subtracts.
 #[inline]
 #[must_use]
 pub fn wrapping_add_signed(x: u64, y: i64) -> u64 {
@@ -49,8 +49,8 @@ pub fn wrapping_add_signed(x: u64, y: i64) -> u64 {
 /// assert_eq!(u64s::wrapping_sub(5, 3), 2);
 /// ```
 ///
-/// Cited by rows A3; clause vstd_integers/Unsigned.wrapping-sub; contract promisebook_u64::pb_u64_wrapping_sub;
-/// law vstd_integers/Unsigned.wrapping-sub-kept; pinned by vstd_integers/Pinned.pinned-unsigned; refused
+/// Cited by rows A3; clause vstd_integers/Unsigned.wrapping_sub; contract promisebook_u64::pb_u64_wrapping_sub;
+/// law vstd_integers/Unsigned.wrapping_sub_kept; pinned by vstd_integers/Pinned.pinned_unsigned; refused
 /// unsigned8_sums/wrapping_sub.one_too_many, zero_borrows.
 #[inline]
 #[must_use]
@@ -67,8 +67,8 @@ pub fn wrapping_sub(x: u64, y: u64) -> u64 {
 /// assert_eq!(u64s::wrapping_mul(4294967295, 4294967295), 18446744065119617025);
 /// ```
 ///
-/// Cited by rows A4; clause vstd_integers/Unsigned.wrapping-mul; contract promisebook_u64::pb_u64_wrapping_mul;
-/// law vstd_integers/Unsigned.wrapping-mul-kept; pinned by vstd_integers/Pinned.pinned-unsigned; refused
+/// Cited by rows A4; clause vstd_integers/Unsigned.wrapping_mul; contract promisebook_u64::pb_u64_wrapping_mul;
+/// law vstd_integers/Unsigned.wrapping_mul_kept; pinned by vstd_integers/Pinned.pinned_unsigned; refused
 /// unsigned8_sums/wrapping_mul.modulo_255, square.
 #[inline]
 #[must_use]
@@ -84,8 +84,8 @@ pub fn wrapping_mul(x: u64, y: u64) -> u64 {
 /// assert_eq!(u64s::wrapping_shl(3, 63), 9223372036854775808);
 /// ```
 ///
-/// Cited by rows A5; clause vstd_integers/Unsigned.wrapping-shl; contract promisebook_u64::pb_u64_wrapping_shl;
-/// law vstd_integers/Unsigned.wrapping-shl-kept; pinned by vstd_integers/Pinned.pinned-unsigned; refused
+/// Cited by rows A5; clause vstd_integers/Unsigned.wrapping_shl; contract promisebook_u64::pb_u64_wrapping_shl;
+/// law vstd_integers/Unsigned.wrapping_shl_kept; pinned by vstd_integers/Pinned.pinned_unsigned; refused
 /// unsigned8_bits/wrapping_shl.by_the_width_is_0, modulo_7.
 #[inline]
 #[must_use]
@@ -100,8 +100,8 @@ pub fn wrapping_shl(x: u64, rhs: u32) -> u64 {
 /// assert_eq!(u64s::wrapping_shr(9223372036854775808, 127), 1);
 /// ```
 ///
-/// Cited by rows A6; clause vstd_integers/Unsigned.wrapping-shr; contract promisebook_u64::pb_u64_wrapping_shr;
-/// law vstd_integers/Unsigned.wrapping-shr-kept; pinned by vstd_integers/Pinned.pinned-unsigned; refused
+/// Cited by rows A6; clause vstd_integers/Unsigned.wrapping_shr; contract promisebook_u64::pb_u64_wrapping_shr;
+/// law vstd_integers/Unsigned.wrapping_shr_kept; pinned by vstd_integers/Pinned.pinned_unsigned; refused
 /// unsigned8_bits/wrapping_shr.by_the_width_is_0, modulo_7.
 #[inline]
 #[must_use]
@@ -117,8 +117,8 @@ pub fn wrapping_shr(x: u64, rhs: u32) -> u64 {
 /// assert_eq!(u64s::checked_add(18446744073709551460, 100), Some(18446744073709551560));
 /// ```
 ///
-/// Cited by rows A7; clause vstd_integers/Unsigned.checked-add; contract promisebook_u64::pb_u64_checked_add; law
-/// vstd_integers/Unsigned.checked-add-kept; pinned by vstd_integers/Pinned.pinned-unsigned-option; refused
+/// Cited by rows A7; clause vstd_integers/Unsigned.checked_add; contract promisebook_u64::pb_u64_checked_add; law
+/// vstd_integers/Unsigned.checked_add_kept; pinned by vstd_integers/Pinned.pinned_unsigned_option; refused
 /// unsigned8_sums/checked_add.second_summand_alone, sum_of_255_refused,
 /// vstd_integers/checked_add.largest_refused.
 #[inline]
@@ -137,9 +137,9 @@ pub fn checked_add(x: u64, y: u64) -> Option<u64> {
 /// assert_eq!(u64s::checked_add_signed(18446744073709551560, 100), None);
 /// ```
 ///
-/// Cited by rows A8; clause vstd_integers/Unsigned.checked-add-signed; contract
-/// promisebook_u64::pb_u64_checked_add_signed; law vstd_integers/Unsigned.checked-add-signed-kept; pinned by
-/// vstd_integers/Pinned.pinned-unsigned-option; refused unsigned8_sums/checked_add_signed.first_summand,
+/// Cited by rows A8; clause vstd_integers/Unsigned.checked_add_signed; contract
+/// promisebook_u64::pb_u64_checked_add_signed; law vstd_integers/Unsigned.checked_add_signed_kept; pinned by
+/// vstd_integers/Pinned.pinned_unsigned_option; refused unsigned8_sums/checked_add_signed.first_summand,
 /// other_side.
 #[inline]
 #[must_use]
@@ -156,8 +156,8 @@ pub fn checked_add_signed(x: u64, y: i64) -> Option<u64> {
 /// assert_eq!(u64s::checked_sub(5, 3), Some(2));
 /// ```
 ///
-/// Cited by rows A9; clause vstd_integers/Unsigned.checked-sub; contract promisebook_u64::pb_u64_checked_sub; law
-/// vstd_integers/Unsigned.checked-sub-kept; pinned by vstd_integers/Pinned.pinned-unsigned-option; refused
+/// Cited by rows A9; clause vstd_integers/Unsigned.checked_sub; contract promisebook_u64::pb_u64_checked_sub; law
+/// vstd_integers/Unsigned.checked_sub_kept; pinned by vstd_integers/Pinned.pinned_unsigned_option; refused
 /// unsigned8_sums/checked_sub.nothing_taken, other_way_round.
 #[inline]
 #[must_use]
@@ -175,8 +175,8 @@ pub fn checked_sub(x: u64, y: u64) -> Option<u64> {
 /// assert_eq!(u64s::checked_mul(4294967295, 4294967295), Some(18446744065119617025));
 /// ```
 ///
-/// Cited by rows A10; clause vstd_integers/Unsigned.checked-mul; contract promisebook_u64::pb_u64_checked_mul;
-/// law vstd_integers/Unsigned.checked-mul-kept; pinned by vstd_integers/Pinned.pinned-unsigned-option; refused
+/// Cited by rows A10; clause vstd_integers/Unsigned.checked_mul; contract promisebook_u64::pb_u64_checked_mul;
+/// law vstd_integers/Unsigned.checked_mul_kept; pinned by vstd_integers/Pinned.pinned_unsigned_option; refused
 /// unsigned8_sums/checked_mul.larger_quotient_taken, square.
 #[inline]
 #[must_use]
@@ -195,9 +195,9 @@ pub fn checked_mul(x: u64, y: u64) -> Option<u64> {
 /// assert_eq!(u64s::checked_next_multiple_of(7, 0), None);
 /// ```
 ///
-/// Cited by rows A11; clause vstd_integers/Unsigned.checked-next-multiple-of; contract
-/// promisebook_u64::pb_u64_checked_next_multiple_of; law vstd_integers/Unsigned.checked-next-multiple-of-kept;
-/// pinned by vstd_integers/Pinned.pinned-unsigned-option; refused
+/// Cited by rows A11; clause vstd_integers/Unsigned.checked_next_multiple_of; contract
+/// promisebook_u64::pb_u64_checked_next_multiple_of; law vstd_integers/Unsigned.checked_next_multiple_of_kept;
+/// pinned by vstd_integers/Pinned.pinned_unsigned_option; refused
 /// unsigned8_division/checked_next_multiple_of.always_a_multiple, first_multiple,
 /// vstd_integers/checked_next_multiple_of.zero_not_refused, promisebook_u8/checked_next_multiple_of.nine_bits.
 #[inline]
@@ -216,8 +216,8 @@ pub fn checked_next_multiple_of(x: u64, y: u64) -> Option<u64> {
 /// assert_eq!(u64s::checked_div(7, 0), None);
 /// ```
 ///
-/// Cited by rows A12; clause vstd_integers/Unsigned.checked-div; contract promisebook_u64::pb_u64_checked_div;
-/// law vstd_integers/Unsigned.checked-div-kept; pinned by vstd_integers/Pinned.pinned-unsigned-option; refused
+/// Cited by rows A12; clause vstd_integers/Unsigned.checked_div; contract promisebook_u64::pb_u64_checked_div;
+/// law vstd_integers/Unsigned.checked_div_kept; pinned by vstd_integers/Pinned.pinned_unsigned_option; refused
 /// unsigned8_division/checked_div.by_zero_is_0, other_dividend.
 #[inline]
 #[must_use]
@@ -235,9 +235,9 @@ pub fn checked_div(x: u64, y: u64) -> Option<u64> {
 /// assert_eq!(u64s::checked_div_euclid(7, 0), None);
 /// ```
 ///
-/// Cited by rows A13; clause vstd_integers/Unsigned.checked-div; contract
-/// promisebook_u64::pb_u64_checked_div_euclid; law vstd_integers/Unsigned.checked-div-euclid-kept; pinned by
-/// vstd_integers/Pinned.pinned-unsigned-option; refused unsigned8_division/checked_div_euclid.by_zero_is_0,
+/// Cited by rows A13; clause vstd_integers/Unsigned.checked_div; contract
+/// promisebook_u64::pb_u64_checked_div_euclid; law vstd_integers/Unsigned.checked_div_euclid_kept; pinned by
+/// vstd_integers/Pinned.pinned_unsigned_option; refused unsigned8_division/checked_div_euclid.by_zero_is_0,
 /// other_way_round.
 #[inline]
 #[must_use]
@@ -255,8 +255,8 @@ pub fn checked_div_euclid(x: u64, y: u64) -> Option<u64> {
 /// assert_eq!(u64s::checked_rem(7, 0), None);
 /// ```
 ///
-/// Cited by rows A14; clause vstd_integers/Unsigned.checked-rem; contract promisebook_u64::pb_u64_checked_rem;
-/// law vstd_integers/Unsigned.checked-rem-kept; pinned by vstd_integers/Pinned.pinned-unsigned-option; refused
+/// Cited by rows A14; clause vstd_integers/Unsigned.checked_rem; contract promisebook_u64::pb_u64_checked_rem;
+/// law vstd_integers/Unsigned.checked_rem_kept; pinned by vstd_integers/Pinned.pinned_unsigned_option; refused
 /// unsigned8_division/checked_rem.by_zero_is_dividend, other_dividend.
 #[inline]
 #[must_use]
@@ -274,9 +274,9 @@ pub fn checked_rem(x: u64, y: u64) -> Option<u64> {
 /// assert_eq!(u64s::checked_rem_euclid(7, 0), None);
 /// ```
 ///
-/// Cited by rows A15; clause vstd_integers/Unsigned.checked-rem; contract
-/// promisebook_u64::pb_u64_checked_rem_euclid; law vstd_integers/Unsigned.checked-rem-euclid-kept; pinned by
-/// vstd_integers/Pinned.pinned-unsigned-option; refused
+/// Cited by rows A15; clause vstd_integers/Unsigned.checked_rem; contract
+/// promisebook_u64::pb_u64_checked_rem_euclid; law vstd_integers/Unsigned.checked_rem_euclid_kept; pinned by
+/// vstd_integers/Pinned.pinned_unsigned_option; refused
 /// unsigned8_division/checked_rem_euclid.by_zero_is_dividend, other_way_round.
 #[inline]
 #[must_use]
@@ -293,9 +293,9 @@ pub fn checked_rem_euclid(x: u64, y: u64) -> Option<u64> {
 /// assert_eq!(u64s::saturating_add(18446744073709551460, 100), 18446744073709551560);
 /// ```
 ///
-/// Cited by rows A16; clause vstd_integers/Unsigned.saturating-add; contract
-/// promisebook_u64::pb_u64_saturating_add; law vstd_integers/Unsigned.saturating-add-kept; pinned by
-/// vstd_integers/Pinned.pinned-unsigned; refused unsigned8_sums/saturating_add.first_summand, wraps_to_0.
+/// Cited by rows A16; clause vstd_integers/Unsigned.saturating_add; contract
+/// promisebook_u64::pb_u64_saturating_add; law vstd_integers/Unsigned.saturating_add_kept; pinned by
+/// vstd_integers/Pinned.pinned_unsigned; refused unsigned8_sums/saturating_add.first_summand, wraps_to_0.
 #[inline]
 #[must_use]
 pub fn saturating_add(x: u64, y: u64) -> u64 {
@@ -310,9 +310,9 @@ pub fn saturating_add(x: u64, y: u64) -> u64 {
 /// assert_eq!(u64s::saturating_sub(5, 3), 2);
 /// ```
 ///
-/// Cited by rows A17; clause vstd_integers/Unsigned.saturating-sub; contract
-/// promisebook_u64::pb_u64_saturating_sub; law vstd_integers/Unsigned.saturating-sub-kept; pinned by
-/// vstd_integers/Pinned.pinned-unsigned; refused unsigned8_sums/saturating_sub.other_side, stops_at_1,
+/// Cited by rows A17; clause vstd_integers/Unsigned.saturating_sub; contract
+/// promisebook_u64::pb_u64_saturating_sub; law vstd_integers/Unsigned.saturating_sub_kept; pinned by
+/// vstd_integers/Pinned.pinned_unsigned; refused unsigned8_sums/saturating_sub.other_side, stops_at_1,
 /// promisebook_u8/saturating_sub.wraps.
 #[inline]
 #[must_use]
@@ -329,9 +329,9 @@ pub fn saturating_sub(x: u64, y: u64) -> u64 {
 /// assert_eq!(u64s::saturating_mul(4294967295, 4294967295), 18446744065119617025);
 /// ```
 ///
-/// Cited by rows A18; clause vstd_integers/Unsigned.saturating-mul; contract
-/// promisebook_u64::pb_u64_saturating_mul; law vstd_integers/Unsigned.saturating-mul-kept; pinned by
-/// vstd_integers/Pinned.pinned-unsigned; refused unsigned8_sums/saturating_mul.square, wraps_to_0,
+/// Cited by rows A18; clause vstd_integers/Unsigned.saturating_mul; contract
+/// promisebook_u64::pb_u64_saturating_mul; law vstd_integers/Unsigned.saturating_mul_kept; pinned by
+/// vstd_integers/Pinned.pinned_unsigned; refused unsigned8_sums/saturating_mul.square, wraps_to_0,
 /// vstd_integers/saturating_mul.wraps.
 #[inline]
 #[must_use]
@@ -349,9 +349,9 @@ pub fn saturating_mul(x: u64, y: u64) -> u64 {
 /// assert!(!u64s::is_multiple_of(7, 0));
 /// ```
 ///
-/// Cited by rows A19; clause vstd_integers/Unsigned.is-multiple-of; contract
-/// promisebook_u64::pb_u64_is_multiple_of; law vstd_integers/Unsigned.is-multiple-of-kept; pinned by
-/// vstd_integers/Pinned.pinned-equation; refused unsigned8_division/is_multiple_of.all_of_zero, remainder_of_1,
+/// Cited by rows A19; clause vstd_integers/Unsigned.is_multiple_of; contract
+/// promisebook_u64::pb_u64_is_multiple_of; law vstd_integers/Unsigned.is_multiple_of_kept; pinned by
+/// vstd_integers/Pinned.pinned_equation; refused unsigned8_division/is_multiple_of.all_of_zero, remainder_of_1,
 /// vstd_integers/is_multiple_of.all_of_zero.
 #[inline]
 #[must_use]
@@ -368,7 +368,7 @@ pub fn is_multiple_of(x: u64, y: u64) -> bool {
 /// ```
 ///
 /// Cited by rows A35; clause vstd_integers/Compare.clone; contract promisebook_u64::pb_u64_clone; law
-/// vstd_integers/Compare.clone-kept; pinned by vstd_integers/Pinned.pinned-unsigned, pinned-equation; refused
+/// vstd_integers/Compare.clone_kept; pinned by vstd_integers/Pinned.pinned_unsigned, pinned_equation; refused
 /// promisebook_u8/clone.always_0, promisebook_i8/clone.always_0.
 #[inline]
 #[must_use]
@@ -386,7 +386,7 @@ pub fn clone(x: u64) -> u64 {
 /// ```
 ///
 /// Cited by rows A36; clause vstd_integers/Compare.eq; contract promisebook_u64::pb_u64_eq; law
-/// vstd_integers/Compare.eq-kept; pinned by vstd_integers/Pinned.pinned-equation; refused
+/// vstd_integers/Compare.eq_kept; pinned by vstd_integers/Pinned.pinned_equation; refused
 /// ordering/is_eq.less_is_equal, never.
 #[inline]
 #[must_use]
@@ -404,7 +404,7 @@ pub fn eq(x: u64, y: u64) -> bool {
 /// ```
 ///
 /// Cited by rows A37; clause vstd_integers/Compare.ne; contract promisebook_u64::pb_u64_ne; law
-/// vstd_integers/Compare.ne-kept; pinned by vstd_integers/Pinned.pinned-equation; refused
+/// vstd_integers/Compare.ne_kept; pinned by vstd_integers/Pinned.pinned_equation; refused
 /// ordering/is_ne.equal_differs, greater_only.
 #[inline]
 #[must_use]
@@ -422,7 +422,7 @@ pub fn ne(x: u64, y: u64) -> bool {
 /// ```
 ///
 /// Cited by rows A40; clause vstd_integers/Compare.lt; contract promisebook_u64::pb_u64_lt; law
-/// vstd_integers/Compare.lt-kept; pinned by vstd_integers/Pinned.pinned-equation; refused
+/// vstd_integers/Compare.lt_kept; pinned by vstd_integers/Pinned.pinned_equation; refused
 /// ordering/is_lt.equal_is_less, greater_is_less.
 #[inline]
 #[must_use]
@@ -440,7 +440,7 @@ pub fn lt(x: u64, y: u64) -> bool {
 /// ```
 ///
 /// Cited by rows A41; clause vstd_integers/Compare.le; contract promisebook_u64::pb_u64_le; law
-/// vstd_integers/Compare.le-kept; pinned by vstd_integers/Pinned.pinned-equation; refused
+/// vstd_integers/Compare.le_kept; pinned by vstd_integers/Pinned.pinned_equation; refused
 /// ordering/is_le.equal_is_more, greater_is_at_most, vstd_integers/le.equal_is_more.
 #[inline]
 #[must_use]
@@ -458,7 +458,7 @@ pub fn le(x: u64, y: u64) -> bool {
 /// ```
 ///
 /// Cited by rows A42; clause vstd_integers/Compare.gt; contract promisebook_u64::pb_u64_gt; law
-/// vstd_integers/Compare.gt-kept; pinned by vstd_integers/Pinned.pinned-equation; refused
+/// vstd_integers/Compare.gt_kept; pinned by vstd_integers/Pinned.pinned_equation; refused
 /// ordering/is_gt.equal_is_greater, less_is_greater.
 #[inline]
 #[must_use]
@@ -476,7 +476,7 @@ pub fn gt(x: u64, y: u64) -> bool {
 /// ```
 ///
 /// Cited by rows A43; clause vstd_integers/Compare.ge; contract promisebook_u64::pb_u64_ge; law
-/// vstd_integers/Compare.ge-kept; pinned by vstd_integers/Pinned.pinned-equation; refused
+/// vstd_integers/Compare.ge_kept; pinned by vstd_integers/Pinned.pinned_equation; refused
 /// ordering/is_ge.equal_is_less, less_is_at_least.
 #[inline]
 #[must_use]
@@ -495,7 +495,7 @@ pub fn ge(x: u64, y: u64) -> bool {
 /// ```
 ///
 /// Cited by rows A38; clause vstd_integers/Compare.cmp; contract promisebook_u64::pb_u64_cmp; law
-/// vstd_integers/Compare.cmp-kept; pinned by vstd_integers/Pinned.pinned-equation; refused
+/// vstd_integers/Compare.cmp_kept; pinned by vstd_integers/Pinned.pinned_equation; refused
 /// ordering/number.greater_is_0, less_is_1, unsigned8_order/compare.equal_is_greater, less_is_greater,
 /// signed8_order/compare.equal_is_greater, less_is_greater.
 #[inline]
@@ -515,7 +515,7 @@ pub fn cmp(x: u64, y: u64) -> Ordering {
 /// ```
 ///
 /// Cited by rows A39; clause vstd_integers/Compare.cmp; contract promisebook_u64::pb_u64_partial_cmp; law
-/// vstd_integers/Compare.cmp-kept; pinned by vstd_integers/Pinned.pinned-option.
+/// vstd_integers/Compare.cmp_kept; pinned by vstd_integers/Pinned.pinned_option.
 #[inline]
 #[must_use]
 pub fn partial_cmp(x: u64, y: u64) -> Option<Ordering> {
@@ -533,9 +533,9 @@ pub fn partial_cmp(x: u64, y: u64) -> Option<Ordering> {
 /// assert_eq!(u64s::leading_zeros(18446744073709551615), 0);
 /// ```
 ///
-/// Cited by rows B3; clause vstd_zeros/Zeros.vstd-leading-zeros; contract
-/// promisebook_zeros::pb_u64_leading_zeros; law vstd_zeros/Zeros.vstd-leading-zeros-is; pinned by
-/// vstd_integers/Pinned.pinned-equation; refused zeros/leading_zeros_u8.highest_bit_is_ignored,
+/// Cited by rows B3; clause vstd_zeros/Zeros.vstd_leading_zeros; contract
+/// promisebook_zeros::pb_u64_leading_zeros; law vstd_zeros/Zeros.vstd_leading_zeros_is; pinned by
+/// vstd_integers/Pinned.pinned_equation; refused zeros/leading_zeros_u8.highest_bit_is_ignored,
 /// zero_has_one_less, vstd_zeros/leading_zeros.zero_has_one_less, promisebook_zeros/leading_zeros.of_eight_bits.
 #[inline]
 #[must_use]
@@ -553,8 +553,8 @@ pub fn leading_zeros(i: u64) -> u32 {
 /// assert_eq!(u64s::leading_ones(18446744073709551615), 64);
 /// ```
 ///
-/// Cited by rows B4; clause vstd_zeros/Zeros.vstd-leading-ones; contract promisebook_zeros::pb_u64_leading_ones;
-/// law vstd_zeros/Zeros.vstd-leading-ones-is; pinned by vstd_integers/Pinned.pinned-equation; refused
+/// Cited by rows B4; clause vstd_zeros/Zeros.vstd_leading_ones; contract promisebook_zeros::pb_u64_leading_ones;
+/// law vstd_zeros/Zeros.vstd_leading_ones_is; pinned by vstd_integers/Pinned.pinned_equation; refused
 /// zeros/leading_ones_u8.highest_bit_counts_as_one, zeros_are_counted, promisebook_zeros/leading_ones.zeros.
 #[inline]
 #[must_use]
@@ -572,9 +572,9 @@ pub fn leading_ones(i: u64) -> u32 {
 /// assert_eq!(u64s::trailing_zeros(18446744073709551615), 0);
 /// ```
 ///
-/// Cited by rows B1; clause vstd_zeros/Zeros.vstd-trailing-zeros; contract
-/// promisebook_zeros::pb_u64_trailing_zeros; law vstd_zeros/Zeros.vstd-trailing-zeros-is; pinned by
-/// vstd_integers/Pinned.pinned-equation; refused zeros/trailing_zeros_u8.lowest_bit_is_ignored,
+/// Cited by rows B1; clause vstd_zeros/Zeros.vstd_trailing_zeros; contract
+/// promisebook_zeros::pb_u64_trailing_zeros; law vstd_zeros/Zeros.vstd_trailing_zeros_is; pinned by
+/// vstd_integers/Pinned.pinned_equation; refused zeros/trailing_zeros_u8.lowest_bit_is_ignored,
 /// zero_has_one_less, vstd_zeros/trailing_zeros.ones_are_counted.
 #[inline]
 #[must_use]
@@ -592,9 +592,9 @@ pub fn trailing_zeros(i: u64) -> u32 {
 /// assert_eq!(u64s::trailing_ones(18446744073709551615), 64);
 /// ```
 ///
-/// Cited by rows B2; clause vstd_zeros/Zeros.vstd-trailing-ones; contract
-/// promisebook_zeros::pb_u64_trailing_ones; law vstd_zeros/Zeros.vstd-trailing-ones-is; pinned by
-/// vstd_integers/Pinned.pinned-equation; refused zeros/trailing_ones_u8.lowest_bit_counts_as_one,
+/// Cited by rows B2; clause vstd_zeros/Zeros.vstd_trailing_ones; contract
+/// promisebook_zeros::pb_u64_trailing_ones; law vstd_zeros/Zeros.vstd_trailing_ones_is; pinned by
+/// vstd_integers/Pinned.pinned_equation; refused zeros/trailing_ones_u8.lowest_bit_counts_as_one,
 /// zeros_are_counted, vstd_zeros/trailing_ones.of_the_number.
 #[inline]
 #[must_use]
@@ -610,9 +610,9 @@ pub fn trailing_ones(i: u64) -> u32 {
 /// assert_eq!(u64s::from_le_bytes(&[7, 6, 5, 4, 3, 2, 1]), None);
 /// ```
 ///
-/// Cited by rows C1, C2; clause vstd_number_bytes/Bytes.from-le-bytes, spec-from-le-bytes; contract
-/// promisebook_number_bytes::pb_u64_from_le_bytes; law vstd_number_bytes/Bytes.from-le-bytes-kept; pinned by
-/// vstd_integers/Pinned.pinned-unsigned-option; refused number_bytes16/from_le_bytes.two_bytes_for_three,
+/// Cited by rows C1, C2; clause vstd_number_bytes/Bytes.from_le_bytes, spec_from_le_bytes; contract
+/// promisebook_number_bytes::pb_u64_from_le_bytes; law vstd_number_bytes/Bytes.from_le_bytes_kept; pinned by
+/// vstd_integers/Pinned.pinned_unsigned_option; refused number_bytes16/from_le_bytes.two_bytes_for_three,
 /// vstd_number_bytes/from_le_bytes.any_length, one_byte_fewer, number_bytes16/from_le_bytes.highest_first,
 /// vstd_number_bytes/from_le_bytes.first_byte_last.
 #[inline]
@@ -632,9 +632,9 @@ pub fn from_le_bytes(s: &[u8]) -> Option<u64> {
 /// assert_eq!(u64s::from_le_bytes_in(&[9, 7, 6, 5, 4, 3, 2, 1, 9], 1..10), None);
 /// ```
 ///
-/// Cited by rows C1, C2; clause vstd_number_bytes/Bytes.from-le-bytes, spec-from-le-bytes; contract
-/// promisebook_number_bytes::pb_u64_from_le_bytes; law vstd_number_bytes/Bytes.from-le-bytes-kept; pinned by
-/// vstd_integers/Pinned.pinned-unsigned-option; refused number_bytes16/from_le_bytes.two_bytes_for_three,
+/// Cited by rows C1, C2; clause vstd_number_bytes/Bytes.from_le_bytes, spec_from_le_bytes; contract
+/// promisebook_number_bytes::pb_u64_from_le_bytes; law vstd_number_bytes/Bytes.from_le_bytes_kept; pinned by
+/// vstd_integers/Pinned.pinned_unsigned_option; refused number_bytes16/from_le_bytes.two_bytes_for_three,
 /// vstd_number_bytes/from_le_bytes.any_length, one_byte_fewer, number_bytes16/from_le_bytes.highest_first,
 /// vstd_number_bytes/from_le_bytes.first_byte_last.
 #[inline]
@@ -650,9 +650,9 @@ pub fn from_le_bytes_in(s: &[u8], part: Range<usize>) -> Option<u64> {
 /// assert_eq!(u64s::to_le_bytes(72623859790382856), [8, 7, 6, 5, 4, 3, 2, 1]);
 /// ```
 ///
-/// Cited by rows C3; clause vstd_number_bytes/Bytes.spec-to-le-bytes; contract
-/// promisebook_number_bytes::pb_u64_to_le_bytes; law vstd_number_bytes/Bytes.to-le-bytes-is; pinned by
-/// theory_lists/Written.pinned-writes; refused number_bytes16/to_le_bytes.highest_first, lowest_twice,
+/// Cited by rows C3; clause vstd_number_bytes/Bytes.spec_to_le_bytes; contract
+/// promisebook_number_bytes::pb_u64_to_le_bytes; law vstd_number_bytes/Bytes.to_le_bytes_is; pinned by
+/// theory_lists/Written.pinned_writes; refused number_bytes16/to_le_bytes.highest_first, lowest_twice,
 /// number_bytes16/write_le_bytes.elsewhere, one_place_too_far, byte_behind_changes,
 /// vstd_number_bytes/to_le_bytes.lowest_byte_only, seven_bits, promisebook_number_bytes/to_le_bytes.four_bytes.
 #[inline]
@@ -676,9 +676,9 @@ pub fn to_le_bytes(x: u64) -> [u8; 8] {
 /// assert_eq!(s, [0, 0, 0, 0, 0, 0, 0, 0, 0]);
 /// ```
 ///
-/// Cited by rows C3; clause vstd_number_bytes/Bytes.spec-to-le-bytes; contract
-/// promisebook_number_bytes::pb_u64_to_le_bytes; law vstd_number_bytes/Bytes.to-le-bytes-is; pinned by
-/// theory_lists/Written.pinned-writes; refused number_bytes16/to_le_bytes.highest_first, lowest_twice,
+/// Cited by rows C3; clause vstd_number_bytes/Bytes.spec_to_le_bytes; contract
+/// promisebook_number_bytes::pb_u64_to_le_bytes; law vstd_number_bytes/Bytes.to_le_bytes_is; pinned by
+/// theory_lists/Written.pinned_writes; refused number_bytes16/to_le_bytes.highest_first, lowest_twice,
 /// number_bytes16/write_le_bytes.elsewhere, one_place_too_far, byte_behind_changes,
 /// vstd_number_bytes/to_le_bytes.lowest_byte_only, seven_bits, promisebook_number_bytes/to_le_bytes.four_bytes.
 #[inline]
@@ -695,9 +695,9 @@ pub fn to_le_bytes_in(s: &mut [u8], part: Range<usize>, x: u64) -> Option<()> {
 /// assert_eq!(u64s::from_be_bytes(&[2, 3, 4, 5, 6, 7, 8]), None);
 /// ```
 ///
-/// Cited by rows C67; clause theory_digits/Number.numberHigh; contract
-/// promisebook_number_bytes::pb_u64_from_be_bytes; law theory_digits/Reading.numberHigh-of-digitsHigh; pinned by
-/// vstd_integers/Pinned.pinned-unsigned-option; refused number_bytes16/from_be_bytes.lowest_first,
+/// Cited by rows C67; clause theory_digits/Number.number_high; contract
+/// promisebook_number_bytes::pb_u64_from_be_bytes; law theory_digits/Reading.number_high_of_digits_high; pinned
+/// by vstd_integers/Pinned.pinned_unsigned_option; refused number_bytes16/from_be_bytes.lowest_first,
 /// two_bytes_for_one.
 #[inline]
 #[must_use]
@@ -716,9 +716,9 @@ pub fn from_be_bytes(s: &[u8]) -> Option<u64> {
 /// assert_eq!(u64s::from_be_bytes_in(&[9, 2, 3, 4, 5, 6, 7, 8, 9], 1..10), None);
 /// ```
 ///
-/// Cited by rows C67; clause theory_digits/Number.numberHigh; contract
-/// promisebook_number_bytes::pb_u64_from_be_bytes; law theory_digits/Reading.numberHigh-of-digitsHigh; pinned by
-/// vstd_integers/Pinned.pinned-unsigned-option; refused number_bytes16/from_be_bytes.lowest_first,
+/// Cited by rows C67; clause theory_digits/Number.number_high; contract
+/// promisebook_number_bytes::pb_u64_from_be_bytes; law theory_digits/Reading.number_high_of_digits_high; pinned
+/// by vstd_integers/Pinned.pinned_unsigned_option; refused number_bytes16/from_be_bytes.lowest_first,
 /// two_bytes_for_one.
 #[inline]
 #[must_use]
@@ -733,9 +733,9 @@ pub fn from_be_bytes_in(s: &[u8], part: Range<usize>) -> Option<u64> {
 /// assert_eq!(u64s::to_be_bytes(72623859790382856), [1, 2, 3, 4, 5, 6, 7, 8]);
 /// ```
 ///
-/// Cited by rows C68; clause theory_digits/Digits.digitsHigh; contract
-/// promisebook_number_bytes::pb_u64_to_be_bytes; law theory_digits/Reading.digitsHigh-of-numberHigh; pinned by
-/// theory_lists/Written.pinned-writes; refused number_bytes16/to_be_bytes.highest_twice, lowest_first,
+/// Cited by rows C68; clause theory_digits/Digits.digits_high; contract
+/// promisebook_number_bytes::pb_u64_to_be_bytes; law theory_digits/Reading.digits_high_of_number_high; pinned by
+/// theory_lists/Written.pinned_writes; refused number_bytes16/to_be_bytes.highest_twice, lowest_first,
 /// number_bytes16/write_be_bytes.complement, last_place_is_refused, byte_changes_twice,
 /// promisebook_number_bytes/to_be_bytes.lowest_first.
 #[inline]
@@ -759,9 +759,9 @@ pub fn to_be_bytes(x: u64) -> [u8; 8] {
 /// assert_eq!(s, [0, 0, 0, 0, 0, 0, 0, 0, 0]);
 /// ```
 ///
-/// Cited by rows C68; clause theory_digits/Digits.digitsHigh; contract
-/// promisebook_number_bytes::pb_u64_to_be_bytes; law theory_digits/Reading.digitsHigh-of-numberHigh; pinned by
-/// theory_lists/Written.pinned-writes; refused number_bytes16/to_be_bytes.highest_twice, lowest_first,
+/// Cited by rows C68; clause theory_digits/Digits.digits_high; contract
+/// promisebook_number_bytes::pb_u64_to_be_bytes; law theory_digits/Reading.digits_high_of_number_high; pinned by
+/// theory_lists/Written.pinned_writes; refused number_bytes16/to_be_bytes.highest_twice, lowest_first,
 /// number_bytes16/write_be_bytes.complement, last_place_is_refused, byte_changes_twice,
 /// promisebook_number_bytes/to_be_bytes.lowest_first.
 #[inline]
@@ -788,9 +788,9 @@ pub fn to_be_bytes_in(s: &mut [u8], part: Range<usize>, x: u64) -> Option<()> {
 /// assert_eq!(u64s::read_decimal(b"=42"), Err(NotDecimal::NoNumber));
 /// ```
 ///
-/// Cited by rows F6; clause theory_decimal/Read.naturalIn, readIn; contract
-/// promisebook_decimal::pb_u64_read_decimal; law theory_decimal/Reading.so-far-all, no-text, past-the-end; pinned
-/// by vstd_integers/Pinned.pinned-unsigned-option; refused decimal_read/read_u64.colon_is_a_figure,
+/// Cited by rows F6; clause theory_decimal/Read.natural_in, read_in; contract
+/// promisebook_decimal::pb_u64_read_decimal; law theory_decimal/Reading.so_far_all, no_text, past_the_end; pinned
+/// by vstd_integers/Pinned.pinned_unsigned_option; refused decimal_read/read_u64.colon_is_a_figure,
 /// largest_number_refused, last_figure_left_out, nothing_is_zero, runs_over,
 /// decimal_read/read_u8.largest_number_refused, too_large_taken, promisebook_decimal/read_decimal.too_large.
 #[inline]
@@ -812,9 +812,9 @@ pub fn read_decimal(s: &[u8]) -> Result<u64, NotDecimal> {
 /// assert_eq!(u64s::read_decimal_in(s, 4..2), None);
 /// ```
 ///
-/// Cited by rows F6; clause theory_decimal/Read.naturalIn, readIn; contract
-/// promisebook_decimal::pb_u64_read_decimal; law theory_decimal/Reading.so-far-all, no-text, past-the-end; pinned
-/// by vstd_integers/Pinned.pinned-unsigned-option; refused decimal_read/read_u64.colon_is_a_figure,
+/// Cited by rows F6; clause theory_decimal/Read.natural_in, read_in; contract
+/// promisebook_decimal::pb_u64_read_decimal; law theory_decimal/Reading.so_far_all, no_text, past_the_end; pinned
+/// by vstd_integers/Pinned.pinned_unsigned_option; refused decimal_read/read_u64.colon_is_a_figure,
 /// largest_number_refused, last_figure_left_out, nothing_is_zero, runs_over,
 /// decimal_read/read_u8.largest_number_refused, too_large_taken, promisebook_decimal/read_decimal.too_large.
 #[inline]
@@ -849,8 +849,8 @@ pub fn read_decimal_in(s: &[u8], part: Range<usize>) -> Option<Result<u64, NotDe
 /// ```
 ///
 /// Cited by rows F8; clause theory_decimal/Written.Shows, natural; contract
-/// promisebook_decimal::pb_u64_write_decimal; law theory_decimal/Showing.natural-shown; pinned by
-/// theory_decimal/Showing.pinned-shows; refused decimal_write/write_u64.last_place_refused, ten_in_one_place,
+/// promisebook_decimal::pb_u64_write_decimal; law theory_decimal/Showing.natural_shown; pinned by
+/// theory_decimal/Showing.pinned_shows; refused decimal_write/write_u64.last_place_refused, ten_in_one_place,
 /// tens_lost, theory_decimal/shows.refusal_counts_anything.
 #[inline]
 #[must_use]
@@ -882,8 +882,8 @@ pub fn write_decimal(s: &mut [u8], x: u64) -> Option<usize> {
 /// ```
 ///
 /// Cited by rows F8; clause theory_decimal/Written.Shows, natural; contract
-/// promisebook_decimal::pb_u64_write_decimal; law theory_decimal/Showing.natural-shown; pinned by
-/// theory_decimal/Showing.pinned-shows; refused decimal_write/write_u64.last_place_refused, ten_in_one_place,
+/// promisebook_decimal::pb_u64_write_decimal; law theory_decimal/Showing.natural_shown; pinned by
+/// theory_decimal/Showing.pinned_shows; refused decimal_write/write_u64.last_place_refused, ten_in_one_place,
 /// tens_lost, theory_decimal/shows.refusal_counts_anything.
 #[inline]
 #[must_use]

@@ -14,8 +14,8 @@ use core::ops::Range;
 /// assert_eq!(u8s::wrapping_add(100, 100), 200);
 /// ```
 ///
-/// Cited by rows A1; clause vstd_integers/Unsigned.wrapping-add; contract promisebook_u8::pb_u8_wrapping_add; law
-/// vstd_integers/Unsigned.wrapping-add-kept; pinned by vstd_integers/Pinned.pinned-unsigned; refused
+/// Cited by rows A1; clause vstd_integers/Unsigned.wrapping_add; contract promisebook_u8::pb_u8_wrapping_add; law
+/// vstd_integers/Unsigned.wrapping_add_kept; pinned by vstd_integers/Pinned.pinned_unsigned; refused
 /// unsigned8_sums/wrapping_add.one_too_few, sum_of_255_wraps.
 #[inline]
 #[must_use]
@@ -32,9 +32,9 @@ pub fn wrapping_add(x: u8, y: u8) -> u8 {
 /// assert_eq!(u8s::wrapping_add_signed(200, 100), 44);
 /// ```
 ///
-/// Cited by rows A2; clause vstd_integers/Unsigned.wrapping-add-signed; contract
-/// promisebook_u8::pb_u8_wrapping_add_signed; law vstd_integers/Unsigned.wrapping-add-signed-kept; pinned by
-/// vstd_integers/Pinned.pinned-unsigned; refused unsigned8_sums/wrapping_add_signed.other_summand, subtracts.
+/// Cited by rows A2; clause vstd_integers/Unsigned.wrapping_add_signed; contract
+/// promisebook_u8::pb_u8_wrapping_add_signed; law vstd_integers/Unsigned.wrapping_add_signed_kept; pinned by
+/// vstd_integers/Pinned.pinned_unsigned; refused unsigned8_sums/wrapping_add_signed.other_summand, subtracts.
 #[inline]
 #[must_use]
 pub fn wrapping_add_signed(x: u8, y: i8) -> u8 {
@@ -49,8 +49,8 @@ pub fn wrapping_add_signed(x: u8, y: i8) -> u8 {
 /// assert_eq!(u8s::wrapping_sub(5, 3), 2);
 /// ```
 ///
-/// Cited by rows A3; clause vstd_integers/Unsigned.wrapping-sub; contract promisebook_u8::pb_u8_wrapping_sub; law
-/// vstd_integers/Unsigned.wrapping-sub-kept; pinned by vstd_integers/Pinned.pinned-unsigned; refused
+/// Cited by rows A3; clause vstd_integers/Unsigned.wrapping_sub; contract promisebook_u8::pb_u8_wrapping_sub; law
+/// vstd_integers/Unsigned.wrapping_sub_kept; pinned by vstd_integers/Pinned.pinned_unsigned; refused
 /// unsigned8_sums/wrapping_sub.one_too_many, zero_borrows.
 #[inline]
 #[must_use]
@@ -67,8 +67,8 @@ pub fn wrapping_sub(x: u8, y: u8) -> u8 {
 /// assert_eq!(u8s::wrapping_mul(15, 15), 225);
 /// ```
 ///
-/// Cited by rows A4; clause vstd_integers/Unsigned.wrapping-mul; contract promisebook_u8::pb_u8_wrapping_mul; law
-/// vstd_integers/Unsigned.wrapping-mul-kept; pinned by vstd_integers/Pinned.pinned-unsigned; refused
+/// Cited by rows A4; clause vstd_integers/Unsigned.wrapping_mul; contract promisebook_u8::pb_u8_wrapping_mul; law
+/// vstd_integers/Unsigned.wrapping_mul_kept; pinned by vstd_integers/Pinned.pinned_unsigned; refused
 /// unsigned8_sums/wrapping_mul.modulo_255, square.
 #[inline]
 #[must_use]
@@ -84,8 +84,8 @@ pub fn wrapping_mul(x: u8, y: u8) -> u8 {
 /// assert_eq!(u8s::wrapping_shl(3, 7), 128);
 /// ```
 ///
-/// Cited by rows A5; clause vstd_integers/Unsigned.wrapping-shl; contract promisebook_u8::pb_u8_wrapping_shl; law
-/// vstd_integers/Unsigned.wrapping-shl-kept; pinned by vstd_integers/Pinned.pinned-unsigned; refused
+/// Cited by rows A5; clause vstd_integers/Unsigned.wrapping_shl; contract promisebook_u8::pb_u8_wrapping_shl; law
+/// vstd_integers/Unsigned.wrapping_shl_kept; pinned by vstd_integers/Pinned.pinned_unsigned; refused
 /// unsigned8_bits/wrapping_shl.by_the_width_is_0, modulo_7.
 #[inline]
 #[must_use]
@@ -100,8 +100,8 @@ pub fn wrapping_shl(x: u8, rhs: u32) -> u8 {
 /// assert_eq!(u8s::wrapping_shr(128, 15), 1);
 /// ```
 ///
-/// Cited by rows A6; clause vstd_integers/Unsigned.wrapping-shr; contract promisebook_u8::pb_u8_wrapping_shr; law
-/// vstd_integers/Unsigned.wrapping-shr-kept; pinned by vstd_integers/Pinned.pinned-unsigned; refused
+/// Cited by rows A6; clause vstd_integers/Unsigned.wrapping_shr; contract promisebook_u8::pb_u8_wrapping_shr; law
+/// vstd_integers/Unsigned.wrapping_shr_kept; pinned by vstd_integers/Pinned.pinned_unsigned; refused
 /// unsigned8_bits/wrapping_shr.by_the_width_is_0, modulo_7.
 #[inline]
 #[must_use]
@@ -117,8 +117,8 @@ pub fn wrapping_shr(x: u8, rhs: u32) -> u8 {
 /// assert_eq!(u8s::checked_add(100, 100), Some(200));
 /// ```
 ///
-/// Cited by rows A7; clause vstd_integers/Unsigned.checked-add; contract promisebook_u8::pb_u8_checked_add; law
-/// vstd_integers/Unsigned.checked-add-kept; pinned by vstd_integers/Pinned.pinned-unsigned-option; refused
+/// Cited by rows A7; clause vstd_integers/Unsigned.checked_add; contract promisebook_u8::pb_u8_checked_add; law
+/// vstd_integers/Unsigned.checked_add_kept; pinned by vstd_integers/Pinned.pinned_unsigned_option; refused
 /// unsigned8_sums/checked_add.second_summand_alone, sum_of_255_refused,
 /// vstd_integers/checked_add.largest_refused.
 #[inline]
@@ -137,9 +137,9 @@ pub fn checked_add(x: u8, y: u8) -> Option<u8> {
 /// assert_eq!(u8s::checked_add_signed(200, 100), None);
 /// ```
 ///
-/// Cited by rows A8; clause vstd_integers/Unsigned.checked-add-signed; contract
-/// promisebook_u8::pb_u8_checked_add_signed; law vstd_integers/Unsigned.checked-add-signed-kept; pinned by
-/// vstd_integers/Pinned.pinned-unsigned-option; refused unsigned8_sums/checked_add_signed.first_summand,
+/// Cited by rows A8; clause vstd_integers/Unsigned.checked_add_signed; contract
+/// promisebook_u8::pb_u8_checked_add_signed; law vstd_integers/Unsigned.checked_add_signed_kept; pinned by
+/// vstd_integers/Pinned.pinned_unsigned_option; refused unsigned8_sums/checked_add_signed.first_summand,
 /// other_side.
 #[inline]
 #[must_use]
@@ -156,8 +156,8 @@ pub fn checked_add_signed(x: u8, y: i8) -> Option<u8> {
 /// assert_eq!(u8s::checked_sub(5, 3), Some(2));
 /// ```
 ///
-/// Cited by rows A9; clause vstd_integers/Unsigned.checked-sub; contract promisebook_u8::pb_u8_checked_sub; law
-/// vstd_integers/Unsigned.checked-sub-kept; pinned by vstd_integers/Pinned.pinned-unsigned-option; refused
+/// Cited by rows A9; clause vstd_integers/Unsigned.checked_sub; contract promisebook_u8::pb_u8_checked_sub; law
+/// vstd_integers/Unsigned.checked_sub_kept; pinned by vstd_integers/Pinned.pinned_unsigned_option; refused
 /// unsigned8_sums/checked_sub.nothing_taken, other_way_round.
 #[inline]
 #[must_use]
@@ -175,8 +175,8 @@ pub fn checked_sub(x: u8, y: u8) -> Option<u8> {
 /// assert_eq!(u8s::checked_mul(15, 15), Some(225));
 /// ```
 ///
-/// Cited by rows A10; clause vstd_integers/Unsigned.checked-mul; contract promisebook_u8::pb_u8_checked_mul; law
-/// vstd_integers/Unsigned.checked-mul-kept; pinned by vstd_integers/Pinned.pinned-unsigned-option; refused
+/// Cited by rows A10; clause vstd_integers/Unsigned.checked_mul; contract promisebook_u8::pb_u8_checked_mul; law
+/// vstd_integers/Unsigned.checked_mul_kept; pinned by vstd_integers/Pinned.pinned_unsigned_option; refused
 /// unsigned8_sums/checked_mul.larger_quotient_taken, square.
 #[inline]
 #[must_use]
@@ -194,9 +194,9 @@ pub fn checked_mul(x: u8, y: u8) -> Option<u8> {
 /// assert_eq!(u8s::checked_next_multiple_of(7, 0), None);
 /// ```
 ///
-/// Cited by rows A11; clause vstd_integers/Unsigned.checked-next-multiple-of; contract
-/// promisebook_u8::pb_u8_checked_next_multiple_of; law vstd_integers/Unsigned.checked-next-multiple-of-kept;
-/// pinned by vstd_integers/Pinned.pinned-unsigned-option; refused
+/// Cited by rows A11; clause vstd_integers/Unsigned.checked_next_multiple_of; contract
+/// promisebook_u8::pb_u8_checked_next_multiple_of; law vstd_integers/Unsigned.checked_next_multiple_of_kept;
+/// pinned by vstd_integers/Pinned.pinned_unsigned_option; refused
 /// unsigned8_division/checked_next_multiple_of.always_a_multiple, first_multiple,
 /// vstd_integers/checked_next_multiple_of.zero_not_refused, promisebook_u8/checked_next_multiple_of.nine_bits.
 #[inline]
@@ -215,8 +215,8 @@ pub fn checked_next_multiple_of(x: u8, y: u8) -> Option<u8> {
 /// assert_eq!(u8s::checked_div(7, 0), None);
 /// ```
 ///
-/// Cited by rows A12; clause vstd_integers/Unsigned.checked-div; contract promisebook_u8::pb_u8_checked_div; law
-/// vstd_integers/Unsigned.checked-div-kept; pinned by vstd_integers/Pinned.pinned-unsigned-option; refused
+/// Cited by rows A12; clause vstd_integers/Unsigned.checked_div; contract promisebook_u8::pb_u8_checked_div; law
+/// vstd_integers/Unsigned.checked_div_kept; pinned by vstd_integers/Pinned.pinned_unsigned_option; refused
 /// unsigned8_division/checked_div.by_zero_is_0, other_dividend.
 #[inline]
 #[must_use]
@@ -234,9 +234,9 @@ pub fn checked_div(x: u8, y: u8) -> Option<u8> {
 /// assert_eq!(u8s::checked_div_euclid(7, 0), None);
 /// ```
 ///
-/// Cited by rows A13; clause vstd_integers/Unsigned.checked-div; contract
-/// promisebook_u8::pb_u8_checked_div_euclid; law vstd_integers/Unsigned.checked-div-euclid-kept; pinned by
-/// vstd_integers/Pinned.pinned-unsigned-option; refused unsigned8_division/checked_div_euclid.by_zero_is_0,
+/// Cited by rows A13; clause vstd_integers/Unsigned.checked_div; contract
+/// promisebook_u8::pb_u8_checked_div_euclid; law vstd_integers/Unsigned.checked_div_euclid_kept; pinned by
+/// vstd_integers/Pinned.pinned_unsigned_option; refused unsigned8_division/checked_div_euclid.by_zero_is_0,
 /// other_way_round.
 #[inline]
 #[must_use]
@@ -254,8 +254,8 @@ pub fn checked_div_euclid(x: u8, y: u8) -> Option<u8> {
 /// assert_eq!(u8s::checked_rem(7, 0), None);
 /// ```
 ///
-/// Cited by rows A14; clause vstd_integers/Unsigned.checked-rem; contract promisebook_u8::pb_u8_checked_rem; law
-/// vstd_integers/Unsigned.checked-rem-kept; pinned by vstd_integers/Pinned.pinned-unsigned-option; refused
+/// Cited by rows A14; clause vstd_integers/Unsigned.checked_rem; contract promisebook_u8::pb_u8_checked_rem; law
+/// vstd_integers/Unsigned.checked_rem_kept; pinned by vstd_integers/Pinned.pinned_unsigned_option; refused
 /// unsigned8_division/checked_rem.by_zero_is_dividend, other_dividend.
 #[inline]
 #[must_use]
@@ -273,9 +273,9 @@ pub fn checked_rem(x: u8, y: u8) -> Option<u8> {
 /// assert_eq!(u8s::checked_rem_euclid(7, 0), None);
 /// ```
 ///
-/// Cited by rows A15; clause vstd_integers/Unsigned.checked-rem; contract
-/// promisebook_u8::pb_u8_checked_rem_euclid; law vstd_integers/Unsigned.checked-rem-euclid-kept; pinned by
-/// vstd_integers/Pinned.pinned-unsigned-option; refused
+/// Cited by rows A15; clause vstd_integers/Unsigned.checked_rem; contract
+/// promisebook_u8::pb_u8_checked_rem_euclid; law vstd_integers/Unsigned.checked_rem_euclid_kept; pinned by
+/// vstd_integers/Pinned.pinned_unsigned_option; refused
 /// unsigned8_division/checked_rem_euclid.by_zero_is_dividend, other_way_round.
 #[inline]
 #[must_use]
@@ -292,9 +292,9 @@ pub fn checked_rem_euclid(x: u8, y: u8) -> Option<u8> {
 /// assert_eq!(u8s::saturating_add(100, 100), 200);
 /// ```
 ///
-/// Cited by rows A16; clause vstd_integers/Unsigned.saturating-add; contract
-/// promisebook_u8::pb_u8_saturating_add; law vstd_integers/Unsigned.saturating-add-kept; pinned by
-/// vstd_integers/Pinned.pinned-unsigned; refused unsigned8_sums/saturating_add.first_summand, wraps_to_0.
+/// Cited by rows A16; clause vstd_integers/Unsigned.saturating_add; contract
+/// promisebook_u8::pb_u8_saturating_add; law vstd_integers/Unsigned.saturating_add_kept; pinned by
+/// vstd_integers/Pinned.pinned_unsigned; refused unsigned8_sums/saturating_add.first_summand, wraps_to_0.
 #[inline]
 #[must_use]
 pub fn saturating_add(x: u8, y: u8) -> u8 {
@@ -309,9 +309,9 @@ pub fn saturating_add(x: u8, y: u8) -> u8 {
 /// assert_eq!(u8s::saturating_sub(5, 3), 2);
 /// ```
 ///
-/// Cited by rows A17; clause vstd_integers/Unsigned.saturating-sub; contract
-/// promisebook_u8::pb_u8_saturating_sub; law vstd_integers/Unsigned.saturating-sub-kept; pinned by
-/// vstd_integers/Pinned.pinned-unsigned; refused unsigned8_sums/saturating_sub.other_side, stops_at_1,
+/// Cited by rows A17; clause vstd_integers/Unsigned.saturating_sub; contract
+/// promisebook_u8::pb_u8_saturating_sub; law vstd_integers/Unsigned.saturating_sub_kept; pinned by
+/// vstd_integers/Pinned.pinned_unsigned; refused unsigned8_sums/saturating_sub.other_side, stops_at_1,
 /// promisebook_u8/saturating_sub.wraps.
 #[inline]
 #[must_use]
@@ -328,9 +328,9 @@ pub fn saturating_sub(x: u8, y: u8) -> u8 {
 /// assert_eq!(u8s::saturating_mul(15, 15), 225);
 /// ```
 ///
-/// Cited by rows A18; clause vstd_integers/Unsigned.saturating-mul; contract
-/// promisebook_u8::pb_u8_saturating_mul; law vstd_integers/Unsigned.saturating-mul-kept; pinned by
-/// vstd_integers/Pinned.pinned-unsigned; refused unsigned8_sums/saturating_mul.square, wraps_to_0,
+/// Cited by rows A18; clause vstd_integers/Unsigned.saturating_mul; contract
+/// promisebook_u8::pb_u8_saturating_mul; law vstd_integers/Unsigned.saturating_mul_kept; pinned by
+/// vstd_integers/Pinned.pinned_unsigned; refused unsigned8_sums/saturating_mul.square, wraps_to_0,
 /// vstd_integers/saturating_mul.wraps.
 #[inline]
 #[must_use]
@@ -348,9 +348,9 @@ pub fn saturating_mul(x: u8, y: u8) -> u8 {
 /// assert!(!u8s::is_multiple_of(7, 0));
 /// ```
 ///
-/// Cited by rows A19; clause vstd_integers/Unsigned.is-multiple-of; contract
-/// promisebook_u8::pb_u8_is_multiple_of; law vstd_integers/Unsigned.is-multiple-of-kept; pinned by
-/// vstd_integers/Pinned.pinned-equation; refused unsigned8_division/is_multiple_of.all_of_zero, remainder_of_1,
+/// Cited by rows A19; clause vstd_integers/Unsigned.is_multiple_of; contract
+/// promisebook_u8::pb_u8_is_multiple_of; law vstd_integers/Unsigned.is_multiple_of_kept; pinned by
+/// vstd_integers/Pinned.pinned_equation; refused unsigned8_division/is_multiple_of.all_of_zero, remainder_of_1,
 /// vstd_integers/is_multiple_of.all_of_zero.
 #[inline]
 #[must_use]
@@ -367,7 +367,7 @@ pub fn is_multiple_of(x: u8, y: u8) -> bool {
 /// ```
 ///
 /// Cited by rows A35; clause vstd_integers/Compare.clone; contract promisebook_u8::pb_u8_clone; law
-/// vstd_integers/Compare.clone-kept; pinned by vstd_integers/Pinned.pinned-unsigned, pinned-equation; refused
+/// vstd_integers/Compare.clone_kept; pinned by vstd_integers/Pinned.pinned_unsigned, pinned_equation; refused
 /// promisebook_u8/clone.always_0, promisebook_i8/clone.always_0.
 #[inline]
 #[must_use]
@@ -385,7 +385,7 @@ pub fn clone(x: u8) -> u8 {
 /// ```
 ///
 /// Cited by rows A36; clause vstd_integers/Compare.eq; contract promisebook_u8::pb_u8_eq; law
-/// vstd_integers/Compare.eq-kept; pinned by vstd_integers/Pinned.pinned-equation; refused
+/// vstd_integers/Compare.eq_kept; pinned by vstd_integers/Pinned.pinned_equation; refused
 /// ordering/is_eq.less_is_equal, never.
 #[inline]
 #[must_use]
@@ -403,7 +403,7 @@ pub fn eq(x: u8, y: u8) -> bool {
 /// ```
 ///
 /// Cited by rows A37; clause vstd_integers/Compare.ne; contract promisebook_u8::pb_u8_ne; law
-/// vstd_integers/Compare.ne-kept; pinned by vstd_integers/Pinned.pinned-equation; refused
+/// vstd_integers/Compare.ne_kept; pinned by vstd_integers/Pinned.pinned_equation; refused
 /// ordering/is_ne.equal_differs, greater_only.
 #[inline]
 #[must_use]
@@ -421,7 +421,7 @@ pub fn ne(x: u8, y: u8) -> bool {
 /// ```
 ///
 /// Cited by rows A40; clause vstd_integers/Compare.lt; contract promisebook_u8::pb_u8_lt; law
-/// vstd_integers/Compare.lt-kept; pinned by vstd_integers/Pinned.pinned-equation; refused
+/// vstd_integers/Compare.lt_kept; pinned by vstd_integers/Pinned.pinned_equation; refused
 /// ordering/is_lt.equal_is_less, greater_is_less.
 #[inline]
 #[must_use]
@@ -439,7 +439,7 @@ pub fn lt(x: u8, y: u8) -> bool {
 /// ```
 ///
 /// Cited by rows A41; clause vstd_integers/Compare.le; contract promisebook_u8::pb_u8_le; law
-/// vstd_integers/Compare.le-kept; pinned by vstd_integers/Pinned.pinned-equation; refused
+/// vstd_integers/Compare.le_kept; pinned by vstd_integers/Pinned.pinned_equation; refused
 /// ordering/is_le.equal_is_more, greater_is_at_most, vstd_integers/le.equal_is_more.
 #[inline]
 #[must_use]
@@ -457,7 +457,7 @@ pub fn le(x: u8, y: u8) -> bool {
 /// ```
 ///
 /// Cited by rows A42; clause vstd_integers/Compare.gt; contract promisebook_u8::pb_u8_gt; law
-/// vstd_integers/Compare.gt-kept; pinned by vstd_integers/Pinned.pinned-equation; refused
+/// vstd_integers/Compare.gt_kept; pinned by vstd_integers/Pinned.pinned_equation; refused
 /// ordering/is_gt.equal_is_greater, less_is_greater.
 #[inline]
 #[must_use]
@@ -475,7 +475,7 @@ pub fn gt(x: u8, y: u8) -> bool {
 /// ```
 ///
 /// Cited by rows A43; clause vstd_integers/Compare.ge; contract promisebook_u8::pb_u8_ge; law
-/// vstd_integers/Compare.ge-kept; pinned by vstd_integers/Pinned.pinned-equation; refused
+/// vstd_integers/Compare.ge_kept; pinned by vstd_integers/Pinned.pinned_equation; refused
 /// ordering/is_ge.equal_is_less, less_is_at_least.
 #[inline]
 #[must_use]
@@ -494,7 +494,7 @@ pub fn ge(x: u8, y: u8) -> bool {
 /// ```
 ///
 /// Cited by rows A38; clause vstd_integers/Compare.cmp; contract promisebook_u8::pb_u8_cmp; law
-/// vstd_integers/Compare.cmp-kept; pinned by vstd_integers/Pinned.pinned-equation; refused
+/// vstd_integers/Compare.cmp_kept; pinned by vstd_integers/Pinned.pinned_equation; refused
 /// ordering/number.greater_is_0, less_is_1, unsigned8_order/compare.equal_is_greater, less_is_greater,
 /// signed8_order/compare.equal_is_greater, less_is_greater.
 #[inline]
@@ -514,7 +514,7 @@ pub fn cmp(x: u8, y: u8) -> Ordering {
 /// ```
 ///
 /// Cited by rows A39; clause vstd_integers/Compare.cmp; contract promisebook_u8::pb_u8_partial_cmp; law
-/// vstd_integers/Compare.cmp-kept; pinned by vstd_integers/Pinned.pinned-option.
+/// vstd_integers/Compare.cmp_kept; pinned by vstd_integers/Pinned.pinned_option.
 #[inline]
 #[must_use]
 pub fn partial_cmp(x: u8, y: u8) -> Option<Ordering> {
@@ -532,8 +532,8 @@ pub fn partial_cmp(x: u8, y: u8) -> Option<Ordering> {
 /// assert_eq!(u8s::leading_zeros(255), 0);
 /// ```
 ///
-/// Cited by rows B3; clause vstd_zeros/Zeros.vstd-leading-zeros; contract promisebook_zeros::pb_u8_leading_zeros;
-/// law vstd_zeros/Zeros.vstd-leading-zeros-is; pinned by vstd_integers/Pinned.pinned-equation; refused
+/// Cited by rows B3; clause vstd_zeros/Zeros.vstd_leading_zeros; contract promisebook_zeros::pb_u8_leading_zeros;
+/// law vstd_zeros/Zeros.vstd_leading_zeros_is; pinned by vstd_integers/Pinned.pinned_equation; refused
 /// zeros/leading_zeros_u8.highest_bit_is_ignored, zero_has_one_less, vstd_zeros/leading_zeros.zero_has_one_less,
 /// promisebook_zeros/leading_zeros.of_eight_bits.
 #[inline]
@@ -552,8 +552,8 @@ pub fn leading_zeros(i: u8) -> u32 {
 /// assert_eq!(u8s::leading_ones(255), 8);
 /// ```
 ///
-/// Cited by rows B4; clause vstd_zeros/Zeros.vstd-leading-ones; contract promisebook_zeros::pb_u8_leading_ones;
-/// law vstd_zeros/Zeros.vstd-leading-ones-is; pinned by vstd_integers/Pinned.pinned-equation; refused
+/// Cited by rows B4; clause vstd_zeros/Zeros.vstd_leading_ones; contract promisebook_zeros::pb_u8_leading_ones;
+/// law vstd_zeros/Zeros.vstd_leading_ones_is; pinned by vstd_integers/Pinned.pinned_equation; refused
 /// zeros/leading_ones_u8.highest_bit_counts_as_one, zeros_are_counted, promisebook_zeros/leading_ones.zeros.
 #[inline]
 #[must_use]
@@ -571,9 +571,9 @@ pub fn leading_ones(i: u8) -> u32 {
 /// assert_eq!(u8s::trailing_zeros(255), 0);
 /// ```
 ///
-/// Cited by rows B1; clause vstd_zeros/Zeros.vstd-trailing-zeros; contract
-/// promisebook_zeros::pb_u8_trailing_zeros; law vstd_zeros/Zeros.vstd-trailing-zeros-is; pinned by
-/// vstd_integers/Pinned.pinned-equation; refused zeros/trailing_zeros_u8.lowest_bit_is_ignored,
+/// Cited by rows B1; clause vstd_zeros/Zeros.vstd_trailing_zeros; contract
+/// promisebook_zeros::pb_u8_trailing_zeros; law vstd_zeros/Zeros.vstd_trailing_zeros_is; pinned by
+/// vstd_integers/Pinned.pinned_equation; refused zeros/trailing_zeros_u8.lowest_bit_is_ignored,
 /// zero_has_one_less, vstd_zeros/trailing_zeros.ones_are_counted.
 #[inline]
 #[must_use]
@@ -591,8 +591,8 @@ pub fn trailing_zeros(i: u8) -> u32 {
 /// assert_eq!(u8s::trailing_ones(255), 8);
 /// ```
 ///
-/// Cited by rows B2; clause vstd_zeros/Zeros.vstd-trailing-ones; contract promisebook_zeros::pb_u8_trailing_ones;
-/// law vstd_zeros/Zeros.vstd-trailing-ones-is; pinned by vstd_integers/Pinned.pinned-equation; refused
+/// Cited by rows B2; clause vstd_zeros/Zeros.vstd_trailing_ones; contract promisebook_zeros::pb_u8_trailing_ones;
+/// law vstd_zeros/Zeros.vstd_trailing_ones_is; pinned by vstd_integers/Pinned.pinned_equation; refused
 /// zeros/trailing_ones_u8.lowest_bit_counts_as_one, zeros_are_counted, vstd_zeros/trailing_ones.of_the_number.
 #[inline]
 #[must_use]
@@ -618,9 +618,9 @@ pub fn trailing_ones(i: u8) -> u32 {
 /// assert_eq!(u8s::read_decimal(b"=42"), Err(NotDecimal::NoNumber));
 /// ```
 ///
-/// Cited by rows F6; clause theory_decimal/Read.naturalIn, readIn; contract
-/// promisebook_decimal::pb_u8_read_decimal; law theory_decimal/Reading.so-far-all, no-text, past-the-end; pinned
-/// by vstd_integers/Pinned.pinned-unsigned-option; refused decimal_read/read_u64.colon_is_a_figure,
+/// Cited by rows F6; clause theory_decimal/Read.natural_in, read_in; contract
+/// promisebook_decimal::pb_u8_read_decimal; law theory_decimal/Reading.so_far_all, no_text, past_the_end; pinned
+/// by vstd_integers/Pinned.pinned_unsigned_option; refused decimal_read/read_u64.colon_is_a_figure,
 /// largest_number_refused, last_figure_left_out, nothing_is_zero, runs_over,
 /// decimal_read/read_u8.largest_number_refused, too_large_taken, promisebook_decimal/read_decimal.too_large.
 #[inline]
@@ -642,9 +642,9 @@ pub fn read_decimal(s: &[u8]) -> Result<u8, NotDecimal> {
 /// assert_eq!(u8s::read_decimal_in(s, 4..2), None);
 /// ```
 ///
-/// Cited by rows F6; clause theory_decimal/Read.naturalIn, readIn; contract
-/// promisebook_decimal::pb_u8_read_decimal; law theory_decimal/Reading.so-far-all, no-text, past-the-end; pinned
-/// by vstd_integers/Pinned.pinned-unsigned-option; refused decimal_read/read_u64.colon_is_a_figure,
+/// Cited by rows F6; clause theory_decimal/Read.natural_in, read_in; contract
+/// promisebook_decimal::pb_u8_read_decimal; law theory_decimal/Reading.so_far_all, no_text, past_the_end; pinned
+/// by vstd_integers/Pinned.pinned_unsigned_option; refused decimal_read/read_u64.colon_is_a_figure,
 /// largest_number_refused, last_figure_left_out, nothing_is_zero, runs_over,
 /// decimal_read/read_u8.largest_number_refused, too_large_taken, promisebook_decimal/read_decimal.too_large.
 #[inline]
@@ -679,8 +679,8 @@ pub fn read_decimal_in(s: &[u8], part: Range<usize>) -> Option<Result<u8, NotDec
 /// ```
 ///
 /// Cited by rows F8; clause theory_decimal/Written.Shows, natural; contract
-/// promisebook_decimal::pb_u8_write_decimal; law theory_decimal/Showing.natural-shown; pinned by
-/// theory_decimal/Showing.pinned-shows; refused decimal_write/write_u64.last_place_refused, ten_in_one_place,
+/// promisebook_decimal::pb_u8_write_decimal; law theory_decimal/Showing.natural_shown; pinned by
+/// theory_decimal/Showing.pinned_shows; refused decimal_write/write_u64.last_place_refused, ten_in_one_place,
 /// tens_lost, theory_decimal/shows.refusal_counts_anything.
 #[inline]
 #[must_use]
@@ -712,8 +712,8 @@ pub fn write_decimal(s: &mut [u8], x: u8) -> Option<usize> {
 /// ```
 ///
 /// Cited by rows F8; clause theory_decimal/Written.Shows, natural; contract
-/// promisebook_decimal::pb_u8_write_decimal; law theory_decimal/Showing.natural-shown; pinned by
-/// theory_decimal/Showing.pinned-shows; refused decimal_write/write_u64.last_place_refused, ten_in_one_place,
+/// promisebook_decimal::pb_u8_write_decimal; law theory_decimal/Showing.natural_shown; pinned by
+/// theory_decimal/Showing.pinned_shows; refused decimal_write/write_u64.last_place_refused, ten_in_one_place,
 /// tens_lost, theory_decimal/shows.refusal_counts_anything.
 #[inline]
 #[must_use]

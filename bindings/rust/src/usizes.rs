@@ -14,9 +14,9 @@ use core::ops::Range;
 /// assert_eq!(usizes::wrapping_add(18446744073709551460, 100), 18446744073709551560);
 /// ```
 ///
-/// Cited by rows A1; clause vstd_integers/Unsigned.wrapping-add; contract
-/// promisebook_usize::pb_usize_wrapping_add; law vstd_integers/Unsigned.wrapping-add-kept; pinned by
-/// vstd_integers/Pinned.pinned-unsigned; refused unsigned8_sums/wrapping_add.one_too_few, sum_of_255_wraps.
+/// Cited by rows A1; clause vstd_integers/Unsigned.wrapping_add; contract
+/// promisebook_usize::pb_usize_wrapping_add; law vstd_integers/Unsigned.wrapping_add_kept; pinned by
+/// vstd_integers/Pinned.pinned_unsigned; refused unsigned8_sums/wrapping_add.one_too_few, sum_of_255_wraps.
 #[inline]
 #[must_use]
 pub fn wrapping_add(x: usize, y: usize) -> usize {
@@ -32,9 +32,9 @@ pub fn wrapping_add(x: usize, y: usize) -> usize {
 /// assert_eq!(usizes::wrapping_add_signed(18446744073709551560, 100), 44);
 /// ```
 ///
-/// Cited by rows A2; clause vstd_integers/Unsigned.wrapping-add-signed; contract
-/// promisebook_usize::pb_usize_wrapping_add_signed; law vstd_integers/Unsigned.wrapping-add-signed-kept; pinned
-/// by vstd_integers/Pinned.pinned-unsigned; refused unsigned8_sums/wrapping_add_signed.other_summand, subtracts.
+/// Cited by rows A2; clause vstd_integers/Unsigned.wrapping_add_signed; contract
+/// promisebook_usize::pb_usize_wrapping_add_signed; law vstd_integers/Unsigned.wrapping_add_signed_kept; pinned
+/// by vstd_integers/Pinned.pinned_unsigned; refused unsigned8_sums/wrapping_add_signed.other_summand, subtracts.
 #[inline]
 #[must_use]
 pub fn wrapping_add_signed(x: usize, y: isize) -> usize {
@@ -49,9 +49,9 @@ pub fn wrapping_add_signed(x: usize, y: isize) -> usize {
 /// assert_eq!(usizes::wrapping_sub(5, 3), 2);
 /// ```
 ///
-/// Cited by rows A3; clause vstd_integers/Unsigned.wrapping-sub; contract
-/// promisebook_usize::pb_usize_wrapping_sub; law vstd_integers/Unsigned.wrapping-sub-kept; pinned by
-/// vstd_integers/Pinned.pinned-unsigned; refused unsigned8_sums/wrapping_sub.one_too_many, zero_borrows.
+/// Cited by rows A3; clause vstd_integers/Unsigned.wrapping_sub; contract
+/// promisebook_usize::pb_usize_wrapping_sub; law vstd_integers/Unsigned.wrapping_sub_kept; pinned by
+/// vstd_integers/Pinned.pinned_unsigned; refused unsigned8_sums/wrapping_sub.one_too_many, zero_borrows.
 #[inline]
 #[must_use]
 pub fn wrapping_sub(x: usize, y: usize) -> usize {
@@ -67,9 +67,9 @@ pub fn wrapping_sub(x: usize, y: usize) -> usize {
 /// assert_eq!(usizes::wrapping_mul(4294967295, 4294967295), 18446744065119617025);
 /// ```
 ///
-/// Cited by rows A4; clause vstd_integers/Unsigned.wrapping-mul; contract
-/// promisebook_usize::pb_usize_wrapping_mul; law vstd_integers/Unsigned.wrapping-mul-kept; pinned by
-/// vstd_integers/Pinned.pinned-unsigned; refused unsigned8_sums/wrapping_mul.modulo_255, square.
+/// Cited by rows A4; clause vstd_integers/Unsigned.wrapping_mul; contract
+/// promisebook_usize::pb_usize_wrapping_mul; law vstd_integers/Unsigned.wrapping_mul_kept; pinned by
+/// vstd_integers/Pinned.pinned_unsigned; refused unsigned8_sums/wrapping_mul.modulo_255, square.
 #[inline]
 #[must_use]
 pub fn wrapping_mul(x: usize, y: usize) -> usize {
@@ -84,9 +84,9 @@ pub fn wrapping_mul(x: usize, y: usize) -> usize {
 /// assert_eq!(usizes::wrapping_shl(3, 63), 9223372036854775808);
 /// ```
 ///
-/// Cited by rows A5; clause vstd_integers/Unsigned.wrapping-shl; contract
-/// promisebook_usize::pb_usize_wrapping_shl; law vstd_integers/Unsigned.wrapping-shl-kept; pinned by
-/// vstd_integers/Pinned.pinned-unsigned; refused unsigned8_bits/wrapping_shl.by_the_width_is_0, modulo_7.
+/// Cited by rows A5; clause vstd_integers/Unsigned.wrapping_shl; contract
+/// promisebook_usize::pb_usize_wrapping_shl; law vstd_integers/Unsigned.wrapping_shl_kept; pinned by
+/// vstd_integers/Pinned.pinned_unsigned; refused unsigned8_bits/wrapping_shl.by_the_width_is_0, modulo_7.
 #[inline]
 #[must_use]
 pub fn wrapping_shl(x: usize, rhs: u32) -> usize {
@@ -100,9 +100,9 @@ pub fn wrapping_shl(x: usize, rhs: u32) -> usize {
 /// assert_eq!(usizes::wrapping_shr(9223372036854775808, 127), 1);
 /// ```
 ///
-/// Cited by rows A6; clause vstd_integers/Unsigned.wrapping-shr; contract
-/// promisebook_usize::pb_usize_wrapping_shr; law vstd_integers/Unsigned.wrapping-shr-kept; pinned by
-/// vstd_integers/Pinned.pinned-unsigned; refused unsigned8_bits/wrapping_shr.by_the_width_is_0, modulo_7.
+/// Cited by rows A6; clause vstd_integers/Unsigned.wrapping_shr; contract
+/// promisebook_usize::pb_usize_wrapping_shr; law vstd_integers/Unsigned.wrapping_shr_kept; pinned by
+/// vstd_integers/Pinned.pinned_unsigned; refused unsigned8_bits/wrapping_shr.by_the_width_is_0, modulo_7.
 #[inline]
 #[must_use]
 pub fn wrapping_shr(x: usize, rhs: u32) -> usize {
@@ -117,8 +117,8 @@ pub fn wrapping_shr(x: usize, rhs: u32) -> usize {
 /// assert_eq!(usizes::checked_add(18446744073709551460, 100), Some(18446744073709551560));
 /// ```
 ///
-/// Cited by rows A7; clause vstd_integers/Unsigned.checked-add; contract promisebook_usize::pb_usize_checked_add;
-/// law vstd_integers/Unsigned.checked-add-kept; pinned by vstd_integers/Pinned.pinned-unsigned-option; refused
+/// Cited by rows A7; clause vstd_integers/Unsigned.checked_add; contract promisebook_usize::pb_usize_checked_add;
+/// law vstd_integers/Unsigned.checked_add_kept; pinned by vstd_integers/Pinned.pinned_unsigned_option; refused
 /// unsigned8_sums/checked_add.second_summand_alone, sum_of_255_refused,
 /// vstd_integers/checked_add.largest_refused.
 #[inline]
@@ -137,9 +137,9 @@ pub fn checked_add(x: usize, y: usize) -> Option<usize> {
 /// assert_eq!(usizes::checked_add_signed(18446744073709551560, 100), None);
 /// ```
 ///
-/// Cited by rows A8; clause vstd_integers/Unsigned.checked-add-signed; contract
-/// promisebook_usize::pb_usize_checked_add_signed; law vstd_integers/Unsigned.checked-add-signed-kept; pinned by
-/// vstd_integers/Pinned.pinned-unsigned-option; refused unsigned8_sums/checked_add_signed.first_summand,
+/// Cited by rows A8; clause vstd_integers/Unsigned.checked_add_signed; contract
+/// promisebook_usize::pb_usize_checked_add_signed; law vstd_integers/Unsigned.checked_add_signed_kept; pinned by
+/// vstd_integers/Pinned.pinned_unsigned_option; refused unsigned8_sums/checked_add_signed.first_summand,
 /// other_side.
 #[inline]
 #[must_use]
@@ -156,8 +156,8 @@ pub fn checked_add_signed(x: usize, y: isize) -> Option<usize> {
 /// assert_eq!(usizes::checked_sub(5, 3), Some(2));
 /// ```
 ///
-/// Cited by rows A9; clause vstd_integers/Unsigned.checked-sub; contract promisebook_usize::pb_usize_checked_sub;
-/// law vstd_integers/Unsigned.checked-sub-kept; pinned by vstd_integers/Pinned.pinned-unsigned-option; refused
+/// Cited by rows A9; clause vstd_integers/Unsigned.checked_sub; contract promisebook_usize::pb_usize_checked_sub;
+/// law vstd_integers/Unsigned.checked_sub_kept; pinned by vstd_integers/Pinned.pinned_unsigned_option; refused
 /// unsigned8_sums/checked_sub.nothing_taken, other_way_round.
 #[inline]
 #[must_use]
@@ -175,9 +175,9 @@ pub fn checked_sub(x: usize, y: usize) -> Option<usize> {
 /// assert_eq!(usizes::checked_mul(4294967295, 4294967295), Some(18446744065119617025));
 /// ```
 ///
-/// Cited by rows A10; clause vstd_integers/Unsigned.checked-mul; contract
-/// promisebook_usize::pb_usize_checked_mul; law vstd_integers/Unsigned.checked-mul-kept; pinned by
-/// vstd_integers/Pinned.pinned-unsigned-option; refused unsigned8_sums/checked_mul.larger_quotient_taken, square.
+/// Cited by rows A10; clause vstd_integers/Unsigned.checked_mul; contract
+/// promisebook_usize::pb_usize_checked_mul; law vstd_integers/Unsigned.checked_mul_kept; pinned by
+/// vstd_integers/Pinned.pinned_unsigned_option; refused unsigned8_sums/checked_mul.larger_quotient_taken, square.
 #[inline]
 #[must_use]
 pub fn checked_mul(x: usize, y: usize) -> Option<usize> {
@@ -195,9 +195,9 @@ pub fn checked_mul(x: usize, y: usize) -> Option<usize> {
 /// assert_eq!(usizes::checked_next_multiple_of(7, 0), None);
 /// ```
 ///
-/// Cited by rows A11; clause vstd_integers/Unsigned.checked-next-multiple-of; contract
+/// Cited by rows A11; clause vstd_integers/Unsigned.checked_next_multiple_of; contract
 /// promisebook_usize::pb_usize_checked_next_multiple_of; law
-/// vstd_integers/Unsigned.checked-next-multiple-of-kept; pinned by vstd_integers/Pinned.pinned-unsigned-option;
+/// vstd_integers/Unsigned.checked_next_multiple_of_kept; pinned by vstd_integers/Pinned.pinned_unsigned_option;
 /// refused unsigned8_division/checked_next_multiple_of.always_a_multiple, first_multiple,
 /// vstd_integers/checked_next_multiple_of.zero_not_refused, promisebook_u8/checked_next_multiple_of.nine_bits.
 #[inline]
@@ -216,9 +216,9 @@ pub fn checked_next_multiple_of(x: usize, y: usize) -> Option<usize> {
 /// assert_eq!(usizes::checked_div(7, 0), None);
 /// ```
 ///
-/// Cited by rows A12; clause vstd_integers/Unsigned.checked-div; contract
-/// promisebook_usize::pb_usize_checked_div; law vstd_integers/Unsigned.checked-div-kept; pinned by
-/// vstd_integers/Pinned.pinned-unsigned-option; refused unsigned8_division/checked_div.by_zero_is_0,
+/// Cited by rows A12; clause vstd_integers/Unsigned.checked_div; contract
+/// promisebook_usize::pb_usize_checked_div; law vstd_integers/Unsigned.checked_div_kept; pinned by
+/// vstd_integers/Pinned.pinned_unsigned_option; refused unsigned8_division/checked_div.by_zero_is_0,
 /// other_dividend.
 #[inline]
 #[must_use]
@@ -236,9 +236,9 @@ pub fn checked_div(x: usize, y: usize) -> Option<usize> {
 /// assert_eq!(usizes::checked_div_euclid(7, 0), None);
 /// ```
 ///
-/// Cited by rows A13; clause vstd_integers/Unsigned.checked-div; contract
-/// promisebook_usize::pb_usize_checked_div_euclid; law vstd_integers/Unsigned.checked-div-euclid-kept; pinned by
-/// vstd_integers/Pinned.pinned-unsigned-option; refused unsigned8_division/checked_div_euclid.by_zero_is_0,
+/// Cited by rows A13; clause vstd_integers/Unsigned.checked_div; contract
+/// promisebook_usize::pb_usize_checked_div_euclid; law vstd_integers/Unsigned.checked_div_euclid_kept; pinned by
+/// vstd_integers/Pinned.pinned_unsigned_option; refused unsigned8_division/checked_div_euclid.by_zero_is_0,
 /// other_way_round.
 #[inline]
 #[must_use]
@@ -256,9 +256,9 @@ pub fn checked_div_euclid(x: usize, y: usize) -> Option<usize> {
 /// assert_eq!(usizes::checked_rem(7, 0), None);
 /// ```
 ///
-/// Cited by rows A14; clause vstd_integers/Unsigned.checked-rem; contract
-/// promisebook_usize::pb_usize_checked_rem; law vstd_integers/Unsigned.checked-rem-kept; pinned by
-/// vstd_integers/Pinned.pinned-unsigned-option; refused unsigned8_division/checked_rem.by_zero_is_dividend,
+/// Cited by rows A14; clause vstd_integers/Unsigned.checked_rem; contract
+/// promisebook_usize::pb_usize_checked_rem; law vstd_integers/Unsigned.checked_rem_kept; pinned by
+/// vstd_integers/Pinned.pinned_unsigned_option; refused unsigned8_division/checked_rem.by_zero_is_dividend,
 /// other_dividend.
 #[inline]
 #[must_use]
@@ -276,9 +276,9 @@ pub fn checked_rem(x: usize, y: usize) -> Option<usize> {
 /// assert_eq!(usizes::checked_rem_euclid(7, 0), None);
 /// ```
 ///
-/// Cited by rows A15; clause vstd_integers/Unsigned.checked-rem; contract
-/// promisebook_usize::pb_usize_checked_rem_euclid; law vstd_integers/Unsigned.checked-rem-euclid-kept; pinned by
-/// vstd_integers/Pinned.pinned-unsigned-option; refused
+/// Cited by rows A15; clause vstd_integers/Unsigned.checked_rem; contract
+/// promisebook_usize::pb_usize_checked_rem_euclid; law vstd_integers/Unsigned.checked_rem_euclid_kept; pinned by
+/// vstd_integers/Pinned.pinned_unsigned_option; refused
 /// unsigned8_division/checked_rem_euclid.by_zero_is_dividend, other_way_round.
 #[inline]
 #[must_use]
@@ -295,9 +295,9 @@ pub fn checked_rem_euclid(x: usize, y: usize) -> Option<usize> {
 /// assert_eq!(usizes::saturating_add(18446744073709551460, 100), 18446744073709551560);
 /// ```
 ///
-/// Cited by rows A16; clause vstd_integers/Unsigned.saturating-add; contract
-/// promisebook_usize::pb_usize_saturating_add; law vstd_integers/Unsigned.saturating-add-kept; pinned by
-/// vstd_integers/Pinned.pinned-unsigned; refused unsigned8_sums/saturating_add.first_summand, wraps_to_0.
+/// Cited by rows A16; clause vstd_integers/Unsigned.saturating_add; contract
+/// promisebook_usize::pb_usize_saturating_add; law vstd_integers/Unsigned.saturating_add_kept; pinned by
+/// vstd_integers/Pinned.pinned_unsigned; refused unsigned8_sums/saturating_add.first_summand, wraps_to_0.
 #[inline]
 #[must_use]
 pub fn saturating_add(x: usize, y: usize) -> usize {
@@ -312,9 +312,9 @@ pub fn saturating_add(x: usize, y: usize) -> usize {
 /// assert_eq!(usizes::saturating_sub(5, 3), 2);
 /// ```
 ///
-/// Cited by rows A17; clause vstd_integers/Unsigned.saturating-sub; contract
-/// promisebook_usize::pb_usize_saturating_sub; law vstd_integers/Unsigned.saturating-sub-kept; pinned by
-/// vstd_integers/Pinned.pinned-unsigned; refused unsigned8_sums/saturating_sub.other_side, stops_at_1,
+/// Cited by rows A17; clause vstd_integers/Unsigned.saturating_sub; contract
+/// promisebook_usize::pb_usize_saturating_sub; law vstd_integers/Unsigned.saturating_sub_kept; pinned by
+/// vstd_integers/Pinned.pinned_unsigned; refused unsigned8_sums/saturating_sub.other_side, stops_at_1,
 /// promisebook_u8/saturating_sub.wraps.
 #[inline]
 #[must_use]
@@ -331,9 +331,9 @@ pub fn saturating_sub(x: usize, y: usize) -> usize {
 /// assert_eq!(usizes::saturating_mul(4294967295, 4294967295), 18446744065119617025);
 /// ```
 ///
-/// Cited by rows A18; clause vstd_integers/Unsigned.saturating-mul; contract
-/// promisebook_usize::pb_usize_saturating_mul; law vstd_integers/Unsigned.saturating-mul-kept; pinned by
-/// vstd_integers/Pinned.pinned-unsigned; refused unsigned8_sums/saturating_mul.square, wraps_to_0,
+/// Cited by rows A18; clause vstd_integers/Unsigned.saturating_mul; contract
+/// promisebook_usize::pb_usize_saturating_mul; law vstd_integers/Unsigned.saturating_mul_kept; pinned by
+/// vstd_integers/Pinned.pinned_unsigned; refused unsigned8_sums/saturating_mul.square, wraps_to_0,
 /// vstd_integers/saturating_mul.wraps.
 #[inline]
 #[must_use]
@@ -351,9 +351,9 @@ pub fn saturating_mul(x: usize, y: usize) -> usize {
 /// assert!(!usizes::is_multiple_of(7, 0));
 /// ```
 ///
-/// Cited by rows A19; clause vstd_integers/Unsigned.is-multiple-of; contract
-/// promisebook_usize::pb_usize_is_multiple_of; law vstd_integers/Unsigned.is-multiple-of-kept; pinned by
-/// vstd_integers/Pinned.pinned-equation; refused unsigned8_division/is_multiple_of.all_of_zero, remainder_of_1,
+/// Cited by rows A19; clause vstd_integers/Unsigned.is_multiple_of; contract
+/// promisebook_usize::pb_usize_is_multiple_of; law vstd_integers/Unsigned.is_multiple_of_kept; pinned by
+/// vstd_integers/Pinned.pinned_equation; refused unsigned8_division/is_multiple_of.all_of_zero, remainder_of_1,
 /// vstd_integers/is_multiple_of.all_of_zero.
 #[inline]
 #[must_use]
@@ -370,7 +370,7 @@ pub fn is_multiple_of(x: usize, y: usize) -> bool {
 /// ```
 ///
 /// Cited by rows A35; clause vstd_integers/Compare.clone; contract promisebook_usize::pb_usize_clone; law
-/// vstd_integers/Compare.clone-kept; pinned by vstd_integers/Pinned.pinned-unsigned, pinned-equation; refused
+/// vstd_integers/Compare.clone_kept; pinned by vstd_integers/Pinned.pinned_unsigned, pinned_equation; refused
 /// promisebook_u8/clone.always_0, promisebook_i8/clone.always_0.
 #[inline]
 #[must_use]
@@ -388,7 +388,7 @@ pub fn clone(x: usize) -> usize {
 /// ```
 ///
 /// Cited by rows A36; clause vstd_integers/Compare.eq; contract promisebook_usize::pb_usize_eq; law
-/// vstd_integers/Compare.eq-kept; pinned by vstd_integers/Pinned.pinned-equation; refused
+/// vstd_integers/Compare.eq_kept; pinned by vstd_integers/Pinned.pinned_equation; refused
 /// ordering/is_eq.less_is_equal, never.
 #[inline]
 #[must_use]
@@ -406,7 +406,7 @@ pub fn eq(x: usize, y: usize) -> bool {
 /// ```
 ///
 /// Cited by rows A37; clause vstd_integers/Compare.ne; contract promisebook_usize::pb_usize_ne; law
-/// vstd_integers/Compare.ne-kept; pinned by vstd_integers/Pinned.pinned-equation; refused
+/// vstd_integers/Compare.ne_kept; pinned by vstd_integers/Pinned.pinned_equation; refused
 /// ordering/is_ne.equal_differs, greater_only.
 #[inline]
 #[must_use]
@@ -424,7 +424,7 @@ pub fn ne(x: usize, y: usize) -> bool {
 /// ```
 ///
 /// Cited by rows A40; clause vstd_integers/Compare.lt; contract promisebook_usize::pb_usize_lt; law
-/// vstd_integers/Compare.lt-kept; pinned by vstd_integers/Pinned.pinned-equation; refused
+/// vstd_integers/Compare.lt_kept; pinned by vstd_integers/Pinned.pinned_equation; refused
 /// ordering/is_lt.equal_is_less, greater_is_less.
 #[inline]
 #[must_use]
@@ -442,7 +442,7 @@ pub fn lt(x: usize, y: usize) -> bool {
 /// ```
 ///
 /// Cited by rows A41; clause vstd_integers/Compare.le; contract promisebook_usize::pb_usize_le; law
-/// vstd_integers/Compare.le-kept; pinned by vstd_integers/Pinned.pinned-equation; refused
+/// vstd_integers/Compare.le_kept; pinned by vstd_integers/Pinned.pinned_equation; refused
 /// ordering/is_le.equal_is_more, greater_is_at_most, vstd_integers/le.equal_is_more.
 #[inline]
 #[must_use]
@@ -460,7 +460,7 @@ pub fn le(x: usize, y: usize) -> bool {
 /// ```
 ///
 /// Cited by rows A42; clause vstd_integers/Compare.gt; contract promisebook_usize::pb_usize_gt; law
-/// vstd_integers/Compare.gt-kept; pinned by vstd_integers/Pinned.pinned-equation; refused
+/// vstd_integers/Compare.gt_kept; pinned by vstd_integers/Pinned.pinned_equation; refused
 /// ordering/is_gt.equal_is_greater, less_is_greater.
 #[inline]
 #[must_use]
@@ -478,7 +478,7 @@ pub fn gt(x: usize, y: usize) -> bool {
 /// ```
 ///
 /// Cited by rows A43; clause vstd_integers/Compare.ge; contract promisebook_usize::pb_usize_ge; law
-/// vstd_integers/Compare.ge-kept; pinned by vstd_integers/Pinned.pinned-equation; refused
+/// vstd_integers/Compare.ge_kept; pinned by vstd_integers/Pinned.pinned_equation; refused
 /// ordering/is_ge.equal_is_less, less_is_at_least.
 #[inline]
 #[must_use]
@@ -497,7 +497,7 @@ pub fn ge(x: usize, y: usize) -> bool {
 /// ```
 ///
 /// Cited by rows A38; clause vstd_integers/Compare.cmp; contract promisebook_usize::pb_usize_cmp; law
-/// vstd_integers/Compare.cmp-kept; pinned by vstd_integers/Pinned.pinned-equation; refused
+/// vstd_integers/Compare.cmp_kept; pinned by vstd_integers/Pinned.pinned_equation; refused
 /// ordering/number.greater_is_0, less_is_1, unsigned8_order/compare.equal_is_greater, less_is_greater,
 /// signed8_order/compare.equal_is_greater, less_is_greater.
 #[inline]
@@ -517,7 +517,7 @@ pub fn cmp(x: usize, y: usize) -> Ordering {
 /// ```
 ///
 /// Cited by rows A39; clause vstd_integers/Compare.cmp; contract promisebook_usize::pb_usize_partial_cmp; law
-/// vstd_integers/Compare.cmp-kept; pinned by vstd_integers/Pinned.pinned-option.
+/// vstd_integers/Compare.cmp_kept; pinned by vstd_integers/Pinned.pinned_option.
 #[inline]
 #[must_use]
 pub fn partial_cmp(x: usize, y: usize) -> Option<Ordering> {
@@ -543,9 +543,9 @@ pub fn partial_cmp(x: usize, y: usize) -> Option<Ordering> {
 /// assert_eq!(usizes::read_decimal(b"=42"), Err(NotDecimal::NoNumber));
 /// ```
 ///
-/// Cited by rows F6; clause theory_decimal/Read.naturalIn, readIn; contract
-/// promisebook_decimal::pb_usize_read_decimal; law theory_decimal/Reading.so-far-all, no-text, past-the-end;
-/// pinned by vstd_integers/Pinned.pinned-unsigned-option; refused decimal_read/read_u64.colon_is_a_figure,
+/// Cited by rows F6; clause theory_decimal/Read.natural_in, read_in; contract
+/// promisebook_decimal::pb_usize_read_decimal; law theory_decimal/Reading.so_far_all, no_text, past_the_end;
+/// pinned by vstd_integers/Pinned.pinned_unsigned_option; refused decimal_read/read_u64.colon_is_a_figure,
 /// largest_number_refused, last_figure_left_out, nothing_is_zero, runs_over,
 /// decimal_read/read_u8.largest_number_refused, too_large_taken, promisebook_decimal/read_decimal.too_large.
 #[inline]
@@ -567,9 +567,9 @@ pub fn read_decimal(s: &[u8]) -> Result<usize, NotDecimal> {
 /// assert_eq!(usizes::read_decimal_in(s, 4..2), None);
 /// ```
 ///
-/// Cited by rows F6; clause theory_decimal/Read.naturalIn, readIn; contract
-/// promisebook_decimal::pb_usize_read_decimal; law theory_decimal/Reading.so-far-all, no-text, past-the-end;
-/// pinned by vstd_integers/Pinned.pinned-unsigned-option; refused decimal_read/read_u64.colon_is_a_figure,
+/// Cited by rows F6; clause theory_decimal/Read.natural_in, read_in; contract
+/// promisebook_decimal::pb_usize_read_decimal; law theory_decimal/Reading.so_far_all, no_text, past_the_end;
+/// pinned by vstd_integers/Pinned.pinned_unsigned_option; refused decimal_read/read_u64.colon_is_a_figure,
 /// largest_number_refused, last_figure_left_out, nothing_is_zero, runs_over,
 /// decimal_read/read_u8.largest_number_refused, too_large_taken, promisebook_decimal/read_decimal.too_large.
 #[inline]
@@ -604,8 +604,8 @@ pub fn read_decimal_in(s: &[u8], part: Range<usize>) -> Option<Result<usize, Not
 /// ```
 ///
 /// Cited by rows F8; clause theory_decimal/Written.Shows, natural; contract
-/// promisebook_decimal::pb_usize_write_decimal; law theory_decimal/Showing.natural-shown; pinned by
-/// theory_decimal/Showing.pinned-shows; refused decimal_write/write_u64.last_place_refused, ten_in_one_place,
+/// promisebook_decimal::pb_usize_write_decimal; law theory_decimal/Showing.natural_shown; pinned by
+/// theory_decimal/Showing.pinned_shows; refused decimal_write/write_u64.last_place_refused, ten_in_one_place,
 /// tens_lost, theory_decimal/shows.refusal_counts_anything.
 #[inline]
 #[must_use]
@@ -637,8 +637,8 @@ pub fn write_decimal(s: &mut [u8], x: usize) -> Option<usize> {
 /// ```
 ///
 /// Cited by rows F8; clause theory_decimal/Written.Shows, natural; contract
-/// promisebook_decimal::pb_usize_write_decimal; law theory_decimal/Showing.natural-shown; pinned by
-/// theory_decimal/Showing.pinned-shows; refused decimal_write/write_u64.last_place_refused, ten_in_one_place,
+/// promisebook_decimal::pb_usize_write_decimal; law theory_decimal/Showing.natural_shown; pinned by
+/// theory_decimal/Showing.pinned_shows; refused decimal_write/write_u64.last_place_refused, ten_in_one_place,
 /// tens_lost, theory_decimal/shows.refusal_counts_anything.
 #[inline]
 #[must_use]
