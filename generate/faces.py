@@ -126,6 +126,11 @@ def faces():
         yield face, found
 
 
+def proved():
+    """The faces that templates prove."""
+    return [face for face, found in faces() if all(export.operation.get("proof") != BY_HAND for export in found)]
+
+
 def source(found):
     record, width = found[0].operation.family.record, None
     text = "".join("// %s\n" % line for line in found[0].filled(record.get("opening")).split("\n")) + "#![tactic(auto)]\n\n" + uses(found)

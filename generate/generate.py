@@ -7,7 +7,8 @@ decimal_read .. decimal_write, the faces, what the programs have of each kind, t
     python3 generate/generate.py --list    print the paths that it writes
 
 A template is the code itself with some words in capitals (the table `words` in templates.py). NAME.VARIANT.rt.in stands in for NAME.rt.in at the widths of
-that variant. A word in the name of a proof's template makes it the proof of several functions (the tables of integers.py and digits.py)."""
+that variant. NAME.invariants.antt.in and NAME.answers.antt.in make the two files of a function's proof; where there is neither, Rattle finds it. A word in the
+name of a proof's template makes it the proof of several functions (the tables of integers.py and digits.py)."""
 import glob
 import os
 import sys
@@ -32,16 +33,16 @@ import numbered_integers
 import rust_integers
 import selftest
 import spelled
-from templates import CRATES, PROOF, read
+from templates import CRATES, read
 
 CODE = [integers, digits, decimals, bench]
 FROM_THE_TABLE = [faces, numbered, numbered_integers, numbered_bytes, spelled, help_text, edges, rust_integers, ask_lines, ask_page, counts, bindings]
 
 
-def stored(made):
-    """The files of the folders that hold generated files alone."""
-    for folder in {os.path.dirname(os.path.dirname(path)) for path in made if os.path.basename(path) in PROOF}:
-        for place, _, files in os.walk(folder):
+def stored(proved):
+    """The files of the folders that hold generated files alone, among them the proofs of the crates that templates prove."""
+    for crate in proved:
+        for place, _, files in os.walk(os.path.join(CRATES, crate, "proofs")):
             yield from (os.path.join(place, file) for file in files)
     for folder in bindings.WHOLE:
         yield from glob.glob(os.path.join(folder, "*"))
@@ -52,6 +53,7 @@ def main():
     if sys.argv[1:] not in ([], ["--check"], ["--list"]):
         sys.exit(__doc__)
     made = {path: text for writer in CODE for path, text in writer.files()}
+    proved = {os.path.relpath(path, CRATES).split(os.sep)[0] for path in made}
     declared.SOURCES.update(made)
     declared_here = {path: text for writer in FROM_THE_TABLE for path, text in writer.files()}
     made.update(declared_here)
@@ -59,7 +61,7 @@ def main():
     if sys.argv[1:] == ["--list"]:
         print("\n".join(sorted(os.path.relpath(path, os.path.dirname(CRATES)) for path in made)))
         return
-    strays = sorted(set(stored(made)) - set(made))
+    strays = sorted(set(stored(proved.union(faces.proved()))) - set(made))
     changed = [path for path, text in made.items() if not os.path.exists(path) or read(path) != text]
     done = ("differs from what is generated", "is not generated") if check else ("written", "removed")
     for path in changed + strays:
