@@ -1,6 +1,7 @@
 """The loops that bench/ times: the crate bench_loops, in one file.
 
-Each part of the file is a template PART.rt.in, filled once for each kind that it names, and PART.invariants.antt.in, PART.answers.antt.in are the proof of every loop in it."""
+Each part of the file is a template PART.rt.in, filled once for each kind that it names. PART.invariants.antt.in and PART.answers.antt.in are the proof of every
+loop in it."""
 import os
 import re
 
