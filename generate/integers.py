@@ -1,6 +1,6 @@
 """Family A: the crates unsigned8_sums .. signed_size_order, the same parts for both signs and every width.
 
-A proof's template whose name has a word of ROWS is the proof of a function for each row: checked_SUM of checked_add and checked_sub."""
+A proof's template whose name has a word of ROWS is the proof of a function for each row: wrapping_SUM_unsigned of two."""
 import os
 import re
 
