@@ -8,5 +8,5 @@ use Rattle.promisebook_decimal.proofs.pb_i16_write_decimal.Goals as goal
 pub returns : goal.returns
 returns c =
     let written = c.write_i16 in
-    subst (λ (z : ℤ). Shows written.result.ok written.result.value c.args.s.now c.args.at (whole z) written.new.0)
+    subst (λ (z : ℤ). Shows written.result.ok written.result.value c.args.s.now c.args.at (whole z) written.new.out)
     (to_z-of_z {w = w16} c.ranges.x) written.ensures
