@@ -1,0 +1,206 @@
+// The exports of promisebook_u16, as a static library: each has the clauses of the face's function, which it calls.
+#![tactic(auto)]
+
+ghost use Rattle.std.specs.Prelude.{◌≡◌, pos};
+ghost use Rattle.theory_answers.specs.Answer.{Answers, answered};
+ghost use Rattle.theory_whole.specs.Order.{numbered};
+ghost use Rattle.vstd_integers.specs.Unsigned.{wrapping_add, wrapping_add_signed, wrapping_sub, wrapping_mul, wrapping_shl, wrapping_shr, checked_add};
+ghost use Rattle.vstd_integers.specs.Unsigned.{checked_add_signed, checked_sub, checked_mul, checked_next_multiple_of, checked_div, checked_rem};
+ghost use Rattle.vstd_integers.specs.Unsigned.{saturating_add, saturating_sub, saturating_mul, is_multiple_of};
+ghost use Rattle.vstd_integers.specs.Compare.{clone, eq, ne, cmp, lt, le, gt, ge};
+
+#[unsafe(no_mangle)]
+pub extern "C" fn pb_u16_wrapping_add(x: u16, y: u16) -> u16
+    ensures { pos result ≡ wrapping_add 16 (pos x) (pos y) }
+{
+    promisebook_u16::pb_u16_wrapping_add(x, y)
+}
+
+#[unsafe(no_mangle)]
+pub extern "C" fn pb_u16_wrapping_add_signed(x: u16, y: i16) -> u16
+    ensures { pos result ≡ wrapping_add_signed 16 (pos x) y }
+{
+    promisebook_u16::pb_u16_wrapping_add_signed(x, y)
+}
+
+#[unsafe(no_mangle)]
+pub extern "C" fn pb_u16_wrapping_sub(x: u16, y: u16) -> u16
+    ensures { pos result ≡ wrapping_sub 16 (pos x) (pos y) }
+{
+    promisebook_u16::pb_u16_wrapping_sub(x, y)
+}
+
+#[unsafe(no_mangle)]
+pub extern "C" fn pb_u16_wrapping_mul(x: u16, y: u16) -> u16
+    ensures { pos result ≡ wrapping_mul 16 (pos x) (pos y) }
+{
+    promisebook_u16::pb_u16_wrapping_mul(x, y)
+}
+
+#[unsafe(no_mangle)]
+pub extern "C" fn pb_u16_wrapping_shl(x: u16, rhs: u32) -> u16
+    ensures { pos result ≡ wrapping_shl 16 (pos x) rhs }
+{
+    promisebook_u16::pb_u16_wrapping_shl(x, rhs)
+}
+
+#[unsafe(no_mangle)]
+pub extern "C" fn pb_u16_wrapping_shr(x: u16, rhs: u32) -> u16
+    ensures { pos result ≡ wrapping_shr 16 (pos x) rhs }
+{
+    promisebook_u16::pb_u16_wrapping_shr(x, rhs)
+}
+
+#[unsafe(no_mangle)]
+pub extern "C" fn pb_u16_checked_add(x: u16, y: u16) -> unsigned16_sums::Checked
+    ensures { Answers result.ok (pos result.value) (checked_add 16 (pos x) (pos y)) }
+{
+    promisebook_u16::pb_u16_checked_add(x, y)
+}
+
+#[unsafe(no_mangle)]
+pub extern "C" fn pb_u16_checked_add_signed(x: u16, y: i16) -> unsigned16_sums::Checked
+    ensures { Answers result.ok (pos result.value) (checked_add_signed 16 (pos x) y) }
+{
+    promisebook_u16::pb_u16_checked_add_signed(x, y)
+}
+
+#[unsafe(no_mangle)]
+pub extern "C" fn pb_u16_checked_sub(x: u16, y: u16) -> unsigned16_sums::Checked
+    ensures { Answers result.ok (pos result.value) (checked_sub 16 (pos x) (pos y)) }
+{
+    promisebook_u16::pb_u16_checked_sub(x, y)
+}
+
+#[unsafe(no_mangle)]
+pub extern "C" fn pb_u16_checked_mul(x: u16, y: u16) -> unsigned16_sums::Checked
+    ensures { Answers result.ok (pos result.value) (checked_mul 16 (pos x) (pos y)) }
+{
+    promisebook_u16::pb_u16_checked_mul(x, y)
+}
+
+#[unsafe(no_mangle)]
+pub extern "C" fn pb_u16_checked_next_multiple_of(x: u16, y: u16) -> unsigned16_sums::Checked
+    ensures { Answers result.ok (pos result.value) (checked_next_multiple_of 16 (pos x) (pos y)) }
+{
+    promisebook_u16::pb_u16_checked_next_multiple_of(x, y)
+}
+
+#[unsafe(no_mangle)]
+pub extern "C" fn pb_u16_checked_div(x: u16, y: u16) -> unsigned16_sums::Checked
+    ensures { Answers result.ok (pos result.value) (checked_div 16 (pos x) (pos y)) }
+{
+    promisebook_u16::pb_u16_checked_div(x, y)
+}
+
+#[unsafe(no_mangle)]
+pub extern "C" fn pb_u16_checked_div_euclid(x: u16, y: u16) -> unsigned16_sums::Checked
+    ensures { Answers result.ok (pos result.value) (checked_div 16 (pos x) (pos y)) }
+{
+    promisebook_u16::pb_u16_checked_div_euclid(x, y)
+}
+
+#[unsafe(no_mangle)]
+pub extern "C" fn pb_u16_checked_rem(x: u16, y: u16) -> unsigned16_sums::Checked
+    ensures { Answers result.ok (pos result.value) (checked_rem 16 (pos x) (pos y)) }
+{
+    promisebook_u16::pb_u16_checked_rem(x, y)
+}
+
+#[unsafe(no_mangle)]
+pub extern "C" fn pb_u16_checked_rem_euclid(x: u16, y: u16) -> unsigned16_sums::Checked
+    ensures { Answers result.ok (pos result.value) (checked_rem 16 (pos x) (pos y)) }
+{
+    promisebook_u16::pb_u16_checked_rem_euclid(x, y)
+}
+
+#[unsafe(no_mangle)]
+pub extern "C" fn pb_u16_saturating_add(x: u16, y: u16) -> u16
+    ensures { pos result ≡ saturating_add 16 (pos x) (pos y) }
+{
+    promisebook_u16::pb_u16_saturating_add(x, y)
+}
+
+#[unsafe(no_mangle)]
+pub extern "C" fn pb_u16_saturating_sub(x: u16, y: u16) -> u16
+    ensures { pos result ≡ saturating_sub 16 (pos x) (pos y) }
+{
+    promisebook_u16::pb_u16_saturating_sub(x, y)
+}
+
+#[unsafe(no_mangle)]
+pub extern "C" fn pb_u16_saturating_mul(x: u16, y: u16) -> u16
+    ensures { pos result ≡ saturating_mul 16 (pos x) (pos y) }
+{
+    promisebook_u16::pb_u16_saturating_mul(x, y)
+}
+
+#[unsafe(no_mangle)]
+pub extern "C" fn pb_u16_is_multiple_of(x: u16, y: u16) -> bool
+    ensures { result ≡ is_multiple_of (pos x) (pos y) }
+{
+    promisebook_u16::pb_u16_is_multiple_of(x, y)
+}
+
+#[unsafe(no_mangle)]
+pub extern "C" fn pb_u16_clone(x: u16) -> u16
+    ensures { pos result ≡ clone (pos x) }
+{
+    promisebook_u16::pb_u16_clone(x)
+}
+
+#[unsafe(no_mangle)]
+pub extern "C" fn pb_u16_eq(x: u16, y: u16) -> bool
+    ensures { result ≡ eq (pos x) (pos y) }
+{
+    promisebook_u16::pb_u16_eq(x, y)
+}
+
+#[unsafe(no_mangle)]
+pub extern "C" fn pb_u16_ne(x: u16, y: u16) -> bool
+    ensures { result ≡ ne (pos x) (pos y) }
+{
+    promisebook_u16::pb_u16_ne(x, y)
+}
+
+#[unsafe(no_mangle)]
+pub extern "C" fn pb_u16_lt(x: u16, y: u16) -> bool
+    ensures { result ≡ lt (pos x) (pos y) }
+{
+    promisebook_u16::pb_u16_lt(x, y)
+}
+
+#[unsafe(no_mangle)]
+pub extern "C" fn pb_u16_le(x: u16, y: u16) -> bool
+    ensures { result ≡ le (pos x) (pos y) }
+{
+    promisebook_u16::pb_u16_le(x, y)
+}
+
+#[unsafe(no_mangle)]
+pub extern "C" fn pb_u16_gt(x: u16, y: u16) -> bool
+    ensures { result ≡ gt (pos x) (pos y) }
+{
+    promisebook_u16::pb_u16_gt(x, y)
+}
+
+#[unsafe(no_mangle)]
+pub extern "C" fn pb_u16_ge(x: u16, y: u16) -> bool
+    ensures { result ≡ ge (pos x) (pos y) }
+{
+    promisebook_u16::pb_u16_ge(x, y)
+}
+
+#[unsafe(no_mangle)]
+pub extern "C" fn pb_u16_cmp(x: u16, y: u16) -> i8
+    ensures { result ≡ numbered (cmp (pos x) (pos y)) }
+{
+    promisebook_u16::pb_u16_cmp(x, y)
+}
+
+#[unsafe(no_mangle)]
+pub extern "C" fn pb_u16_partial_cmp(x: u16, y: u16) -> ordering::PartialOrdering
+    ensures { Answers result.ok result.value (answered (numbered (cmp (pos x) (pos y)))) }
+{
+    promisebook_u16::pb_u16_partial_cmp(x, y)
+}
