@@ -25,7 +25,7 @@ TAKEN_UP = [
     "arithmetic--power2", "bits", "bytes", "endian", "math", "slice", "std_specs--bits", "std_specs--char", "std_specs--num", "std_specs--slice", "utf8", "wrapping",
 ]
 # The crates that crates.txt lists under the headings of programs and of what is measured: their functions have no rows.
-PROGRAMS = re.findall(r"^(\w+):", contracts.read(os.path.join(statements.ROOT, "crates.txt")).partition("\n# programs: ")[2], re.M)
+PROGRAMS = re.findall(r"^(\w+)(?: staticlib)?:", contracts.read(os.path.join(statements.ROOT, "crates.txt")).partition("\n# programs: ")[2], re.M)
 VERDICTS = ["same", "stronger", "refused instead of required", "different", "left out"]
 BEYOND = "beyond vstd"
 LONGEST = 110  # characters of a cell, but for the wrong answers, which are a list

@@ -8,7 +8,7 @@ from table import Fault
 from templates import CRATES, read
 
 PATH = os.path.join(os.path.dirname(CRATES), "crates.txt")
-LINE = re.compile(r"^(\w+):(.*)$", re.M)
+LINE = re.compile(r"^(\w+)(?: staticlib)?:", re.M)
 
 
 def named(text, known):
@@ -25,13 +25,13 @@ def rests_on(crate, texts, known, answered):
     return found - {crate}
 
 
-def line(crate, found, order):
-    return "%s:%s" % (crate, "".join(" " + name for name in sorted(found, key=order.index)))
+def line(listed, found, order):
+    return "%s:%s" % (listed, "".join(" " + name for name in sorted(found, key=order.index)))
 
 
 def files(made):
     stored = read(PATH)
-    order = [name for name, _ in LINE.findall(stored)] + ["io", "libc", "os"]
+    order = LINE.findall(stored) + ["io", "libc", "os"]
     answered = {export.symbol: export.answer.crate for export in exports() if isinstance(export.answer, Struct)}
     texts = {}
     for path, text in made.items():
@@ -44,5 +44,6 @@ def files(made):
             raise Fault("crates.txt does not list %s: put a line `%s:` where its layer stands, and the generator fills it in" % (crate, crate))
         whole = own + [read(os.path.join(place, file)) for place, _, names in os.walk(os.path.join(CRATES, crate)) for file in names
                        if file.endswith((".rt", ".antt")) and os.path.join(place, file) not in made]
-        stored = re.sub(r"(?m)^%s:.*$" % crate, lambda _: line(crate, rests_on(crate, whole, order, answered), order), stored)
+        found = rests_on(crate, whole, order, answered)
+        stored = re.sub(r"(?m)^(%s(?: staticlib)?):.*$" % crate, lambda listed: line(listed.group(1), found, order), stored)
     yield PATH, stored

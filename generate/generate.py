@@ -1,6 +1,6 @@
 #!/usr/bin/env python3
 """Writes what exists once per width, from templates: the crates unsigned8_sums .. signed_size_order, zeros, number_bytes16 .. number_bytes64 and
-decimal_read .. decimal_write, the faces, what the programs have of each kind, the loops of the bench, and the bindings for C and Rust.
+decimal_read .. decimal_write, the faces and what is linked, what the programs have of each kind, the loops of the bench, and the bindings for C and Rust.
 
     python3 generate/generate.py           write
     python3 generate/generate.py --check   only compare; exit status 1 where a file differs, is missing, or is one too many
@@ -33,10 +33,11 @@ import numbered_integers
 import rust_integers
 import selftest
 import spelled
+import statics
 from templates import CRATES, read
 
 CODE = [integers, digits, decimals, bench]
-FROM_THE_TABLE = [faces, numbered, numbered_integers, numbered_bytes, spelled, help_text, edges, rust_integers, ask_lines, ask_page, counts, bindings]
+FROM_THE_TABLE = [faces, statics, numbered, numbered_integers, numbered_bytes, spelled, help_text, edges, rust_integers, ask_lines, ask_page, counts, bindings]
 
 
 def stored(proved):

@@ -8,7 +8,7 @@ FOREIGN = {"io", "libc", "os"}  # the kit's libraries of foreign functions
 def parsed(text):
     """The lines of a crates.txt: {crate: what it names}."""
     lines = [line.split(":") for line in text.split("\n") if line.strip() and not line.startswith("#")]
-    return {name.strip(): below.split() for name, below in lines}
+    return {name.split()[0]: below.split() for name, below in lines}
 
 
 def graph():
