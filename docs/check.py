@@ -24,7 +24,7 @@ VSTD = os.environ.get("VSTD", os.path.join(os.path.dirname(statements.ROOT), "sh
 TAKEN_UP = [
     "arithmetic--power2", "bits", "bytes", "endian", "math", "slice", "std_specs--bits", "std_specs--char", "std_specs--num", "std_specs--slice", "utf8", "wrapping",
 ]
-# The crates that crates.txt lists under the headings of programs and of what is measured: their functions have no rows.
+# The crates that crates.txt lists under the headings of programs, of what is linked and of what is measured: their functions have no rows.
 PROGRAMS = re.findall(r"^(\w+)(?: staticlib)?:", contracts.read(os.path.join(statements.ROOT, "crates.txt")).partition("\n# programs: ")[2], re.M)
 VERDICTS = ["same", "stronger", "refused instead of required", "different", "left out"]
 BEYOND = "beyond vstd"
