@@ -4,9 +4,9 @@
     python3 docs/stack.py ARCHIVE            writes the page anew
     python3 docs/stack.py ARCHIVE --check    exit status 1 where the page says otherwise than the code
 
-Every way through a function is followed, with what it has pushed so far; a call adds its return address and what the function takes that is called. Code that is
-not understood (a stack pointer that is moved by something else than a number, a jump or call whose target stands in a register, functions that call each other in
-a circle) is a fault, not a guess. Needs objdump."""
+Every way through a function is followed, with what it has pushed so far; a call adds its return address and what the function takes that is called. Code that
+is not understood (a stack pointer that is moved by something else than a number, a jump or call whose target stands in a register, functions that call each
+other in a circle) is a fault, not a guess. Needs objdump."""
 import os
 import re
 import subprocess
@@ -129,7 +129,8 @@ def page(found):
     for name, (size, _) in sorted(found.items()):
         by_size.setdefault(size, []).append(name)
     least = min(by_size)
-    rows = ["| %d | %s |" % (size, listed(names) if size > least else "the other %d functions" % len(names)) for size, names in sorted(by_size.items(), reverse=True)]
+    sizes = sorted(by_size.items(), reverse=True)
+    rows = ["| %d | %s |" % (size, listed(names) if size > least else "the other %d functions" % len(names)) for size, names in sizes]
     below = sorted(name for name, (_, writes) in found.items() if writes)
     paragraphs = (TEXT % (max(by_size), listed(below) if below else "none")).strip().split("\n\n")
     filled = [textwrap.fill(" ".join(text.split()), WIDTH, break_on_hyphens=False, break_long_words=False) for text in paragraphs]
@@ -142,12 +143,12 @@ TEXT = """
 A call takes at most %d bytes of stack. The table has of each function how many bytes below the caller's stack pointer it uses, with its return address and with
 what it calls. They hold for all arguments: no function calls itself, none is called by an address, and no array grows with an argument.
 
-docs/stack.py reads them from the machine code of the archive, on every way through it, and the test of the bindings compares them anew. Of code that was inlined
-into a program (bindings/README.md) they say nothing: that uses the stack of the function which it became part of. Nearly all of the largest is a table of 2048 bytes
-by which text is tested.
+docs/stack.py reads them from the machine code of the archive, on every way through it, and the test of the bindings compares them anew. Of code that was
+inlined into a program (bindings/README.md) they say nothing: that uses the stack of the function which it became part of. Nearly all of the largest is a table
+of 2048 bytes by which text is tested.
 
-As the convention of x86-64 allows (System V, the red zone), a function may use up to 128 bytes below its stack pointer, which count here. What interrupts such a
-function on the same stack must leave these bytes alone, as signal handlers do. The functions that do so: %s.
+As the convention of x86-64 allows (System V, the red zone), a function may use up to 128 bytes below its stack pointer, which count here. What interrupts such
+a function on the same stack must leave these bytes alone, as signal handlers do. The functions that do so: %s.
 """
 
 
