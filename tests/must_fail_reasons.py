@@ -27,7 +27,7 @@ ROOT = listed.ROOT
 TOLD = re.compile(r"^rt: must-fail (\S+)\.edit: (.*)", re.M)
 REFUSED = re.compile(r"refused, as it must be(?: \(only because .*?\))?: (.*)")
 ERROR = re.compile(r"^\S+: error: .*|^note: \S+: it is not proved that .*", re.M)
-WAITS = re.compile(r"error: \d+ declarations? that depends? on `([^`]+)`, which was rejected, w\w+ not checked: (.*)")
+WAITS = re.compile(r"error: \d+ declarations? that depends? on (.*), which .* not checked: (.*)")
 # Of a function: an answer that does not show its goal; a goal that is left, which alone says nothing where names are gone; one that is false at values.
 ANSWER = re.compile(r"proofs/\S+/(?:Answers|Invariants|Proof)\.antt:\d+:\d+: error: `")
 LEFT, FALSE = re.compile(r"it is not proved that "), re.compile(r"it is not proved that .*the facts known there allow values at ")
@@ -57,7 +57,7 @@ def by_fact(output):
     lines = ERROR.findall(output)
     waits = [found.groups() for found in map(WAITS.search, lines) if found]
     said = [line for line in lines if not WAITS.search(line)]
-    pinning = {waited for waited, laws in waits if "pinned" in laws}
+    pinning = {waited for names, laws in waits if "pinned" in laws for waited in re.findall("`([^`]+)`", names)}
     first = said[0] if said else ""
     fact = (ANSWER.search(first) or LEFT.search(first)) and not SHAPE.search(first)
     return bool(fact or any(by_law(line, pinning) for line in said)), first
