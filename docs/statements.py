@@ -1,5 +1,5 @@
 """Reads what the library says: the statements of laws and definitions (crates/*/specs, crates/*/proofs), the contracts of functions (crates/*/src) and the
-names of must-fail edits. A law or a definition is named by the crate and the file it stands in, vstd_slices/Slices.get-kept; a function by its crate,
+names of must-fail edits. A law or a definition is named by the crate and the file it stands in, vstd_slices/Kept.get_kept; a function by its crate,
 slices::get, an exported one by its name alone, pb_bytes_get; an edit by its crate, slices/get.one_past_the_end. Names of the kit's libraries begin with kit/."""
 import collections
 import glob
