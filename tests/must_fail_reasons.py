@@ -40,6 +40,7 @@ ROUNDS = 4
 LAW = re.compile(r"proofs/(\w+)\.antt:\d+:\d+: error: `([^`]+)`: (.*)")
 NUMBERS = re.compile(r"`omega`: the goal does not follow from what it read\. All of that holds, and the goal fails, at ")
 MISFIT = re.compile(r"no occurrence of the path|is not determined|projects from a record|is not in scope|is not a function|takes? .* arguments?")
+PROVED = re.compile(r"^logic=proved |^only=1 proved=1$", re.M)
 PARTS = ("src", "specs", "proofs")
 
 
@@ -79,6 +80,15 @@ def pairs(edit):
     return found
 
 
+def function_of(edit, file, crate):
+    """The function that an edit is of, as `rt check --only` takes it; None where its name says none of the file that is changed."""
+    module, name = os.path.splitext(os.path.basename(file))[0], edit.split("/")[1].split(".")[0]
+    with open(os.path.join(crate, file), encoding="utf-8") as text:
+        if not file.startswith("src/") or not re.search(r"^(?:pub )?(?:extern \"C\" )?fn %s\b" % name, text.read(), re.M):
+            return None
+    return "::".join([os.path.basename(crate)] + ([] if module in ("lib", "main") else [module]) + [name])
+
+
 class Room:
     """A copy of a crate and of all that it stands on, where its edits are made one after another."""
 
@@ -106,22 +116,32 @@ class Room:
         with open(path, "w", encoding="utf-8") as file:
             file.write(change(text))
 
-    def said(self):
-        return subprocess.run(["rt", "check"], cwd=self.crate, stdout=subprocess.PIPE, stderr=subprocess.STDOUT, errors="replace", check=False).stdout
+    def said(self, *words):
+        ran = subprocess.run(["rt", "check", *words], cwd=self.crate, stdout=subprocess.PIPE, stderr=subprocess.STDOUT, errors="replace", check=False)
+        return ran.stdout
 
     def fault(self, edit):
         self.restored()
-        for file, old, new in pairs(edit):
+        replaced = pairs(edit)
+        for file, old, new in replaced:
             self.changed(os.path.join(self.crate, file), lambda text, old=old, new=new: text.replace(old, new))
-        output = self.said()
-        for _ in range(ROUNDS):
-            if not self.renamed(output):
-                break
-            output = self.said()
-        if re.search(r"^logic=proved ", output, re.M):
+        output = self.put_right(function_of(edit, replaced[0][0], self.crate))
+        if PROVED.search(output) or not re.search(r"^(?:logic|only)=", output, re.M):
+            output = self.put_right()
+        if PROVED.search(output):
             return "is proved, once its proof has the names that the edited code has"
         fact, first = by_fact(output)
         return None if fact else "the prover names no fact that fails, but: %s" % (first[:200] or "nothing")
+
+    def put_right(self, function=None):
+        """What is said of the crate, or of one function, once the names in its proof are right."""
+        words = ["--only", function] if function else []
+        output = self.said(*words)
+        for _ in range(ROUNDS):
+            if not self.renamed(output):
+                break
+            output = self.said(*words)
+        return output
 
     def renamed(self, output):
         """Puts the names right that proofs of functions have, and the edited code has not; whether there were any."""
@@ -138,10 +158,13 @@ class Room:
         return bool(of_functions)
 
 
-def looked_into(crate, edits, crates):
-    with tempfile.TemporaryDirectory() as folder:
-        room = Room(crate, crates, os.path.join(folder, "room"))
-        return [(edit, room.fault(edit)) for edit in edits]
+def looked_into(crate, edits, crates, folder):
+    """The faults of a crate's edits. What rt builds of the crates below stays for the next ones, which take it over."""
+    room = Room(crate, crates, os.path.join(folder, crate))
+    found = [(edit, room.fault(edit)) for edit in edits]
+    for kept in glob.glob(os.path.join(room.folder, "crates", "*", "out", "incremental")):
+        shutil.rmtree(kept)
+    return found
 
 
 def main():
@@ -158,8 +181,8 @@ def main():
             faults.append("%s: %s" % (edit, told.get(edit, "was not tried")))
         elif not (FALSE.search(refused.group(1)) or ANSWER.search(refused.group(1)) and not SHAPE.search(refused.group(1)) or by_law(refused.group(1), ())):
             open_ones.setdefault(edit.split("/")[0], []).append(edit)
-    with concurrent.futures.ThreadPoolExecutor(max(1, (os.cpu_count() or 1) // 2)) as pool:
-        for found in pool.map(lambda crate: looked_into(crate, open_ones[crate], crates), open_ones):
+    with tempfile.TemporaryDirectory() as folder, concurrent.futures.ThreadPoolExecutor(max(1, (os.cpu_count() or 1) // 2)) as pool:
+        for found in pool.map(lambda crate: looked_into(crate, open_ones[crate], crates, folder), open_ones):
             faults += ["%s: %s" % (edit, fault) for edit, fault in found if fault]
     for line in faults:
         print("must-fail edits: " + line)
