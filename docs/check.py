@@ -106,7 +106,7 @@ class Library:
 
 def word(name):
     """A name as `statements.names_in` has it: of the kit's, the word alone."""
-    return "kit " + name.split(".", 1)[1].strip("_") if name.startswith("kit/") else name
+    return "kit " + name.split(".", 1)[1].strip("◌") if name.startswith("kit/") else name
 
 
 def reason(row):
@@ -193,8 +193,8 @@ def check_law(row, library):
 
 
 def is_item(law, row):
-    """Whether a law has the name of an item of the row, with dashes."""
-    return law.name.split(".")[-1] in {item.split(" ", 1)[1].replace("lemma_", "").replace("_", "-") for item in items(row)}
+    """Whether a law has the name of an item of the row, without `lemma_`."""
+    return law.name.split(".")[-1] in {item.split(" ", 1)[1].replace("lemma_", "") for item in items(row)}
 
 
 def joins_nothing(law, library):
@@ -333,10 +333,10 @@ def check(files, markdown, others, library):
 
 DAMAGES = [
     # file, what stands there, what is put in its place, what the fault must say
-    ("A", "restated: vstd_integers/Unsigned.wrapping-sub\n", "restated: vstd_integers/Unsigned.wrapping-add\n", "wrapping-sub-kept does not conclude"),
-    ("A", "restated: vstd_integers/Unsigned.wrapping-sub\n", "restated: vstd_integers/Unsigned.wrapping-add\n", "nothing restated stands in the contract of pb_u8_wrapping_sub"),
-    ("A", "law: vstd_integers/Unsigned.wrapping-sub-kept", "law: vstd_integers/Unsigned.wrapping-sub-holds", "which does not exist"),
-    ("A", "law: vstd_integers/Unsigned.wrapping-sub-kept", "law: vstd_integers/Unsigned.wrapping-sub", "which is a definition"),
+    ("A", "restated: vstd_integers/Unsigned.wrapping_sub\n", "restated: vstd_integers/Unsigned.wrapping_add\n", "wrapping_sub_kept does not conclude"),
+    ("A", "restated: vstd_integers/Unsigned.wrapping_sub\n", "restated: vstd_integers/Unsigned.wrapping_add\n", "nothing restated stands in the contract of pb_u8_wrapping_sub"),
+    ("A", "law: vstd_integers/Unsigned.wrapping_sub_kept", "law: vstd_integers/Unsigned.wrapping_sub_holds", "which does not exist"),
+    ("A", "law: vstd_integers/Unsigned.wrapping_sub_kept", "law: vstd_integers/Unsigned.wrapping_sub", "which is a definition"),
     ("A", "operation: unsignedN_sums::wrapping_sub\n", "operation: unsignedN_sums::saturating_sub\n", "no law of it names what stands in the contract"),
     ("A", "operation: unsignedN_sums::wrapping_sub\n", "operation: unsignedN_sums::wrapping_less\n", "which is no public function"),
     ("A", "operation: unsignedN_sums::wrapping_sub\n", "operation: unsignedN_sums::wrapping_add\n", "pb_u8_wrapping_sub calls none of"),
@@ -344,10 +344,10 @@ DAMAGES = [
     ("A", "export: pb_uN_wrapping_sub\n", "export: pb_u{8,16,32,64}_wrapping_sub\n", "no row names the function pb_usize_wrapping_sub"),
     ("A", "item: std_specs/num u::wrapping_sub\n", "item: std_specs/num u::wrapping_less\n", "vstd has no item"),
     ("A", "item: std_specs/num u::checked_mul\n", "item: std_specs/num u::checked_sub\n", "no row for std_specs--num u::checked_mul"),
-    ("A", "pinned: vstd_integers/Pinned.pinned-unsigned\n", "pinned: theory_whole/Fit.wrap\n", "which is a definition"),
-    ("A", "pinned: vstd_integers/Pinned.pinned-unsigned\n", "pinned: theory_whole/Wrap.wrap-is\n", "does not pin"),
-    ("A", "pinned: vstd_integers/Pinned.pinned-unsigned\n", "pinned: theory_text/Ends.begins-unique\n", "is not of this row"),
-    ("A", "pinned: vstd_integers/Pinned.pinned-unsigned\n", "", "its export is not pinned"),
+    ("A", "pinned: vstd_integers/Pinned.pinned_unsigned\n", "pinned: theory_whole/Fit.wrap\n", "which is a definition"),
+    ("A", "pinned: vstd_integers/Pinned.pinned_unsigned\n", "pinned: theory_whole/Wrap.wrap_is\n", "does not pin"),
+    ("A", "pinned: vstd_integers/Pinned.pinned_unsigned\n", "pinned: theory_text/Ends.begins_unique\n", "is not of this row"),
+    ("A", "pinned: vstd_integers/Pinned.pinned_unsigned\n", "", "its export is not pinned"),
     ("A", "verdict: same\n", "verdict: much the same\n", "is no verdict"),
     ("A", "verdict: same\n", "verdict: same: by and large\n", "has a reason"),
     ("A", "verdict: same\n", "verdict: stronger\n", "has no reason"),
@@ -355,18 +355,18 @@ DAMAGES = [
     ("A", "wrong: unsigned8_sums/wrapping_sub: one_too_many", "wrong: unsigned16_sums/wrapping_sub: one_too_many", "no must-fail edit unsigned16_sums/wrapping_sub.one_too_many"),
     ("A", "wrong: unsigned8_sums/wrapping_sub: one_too_many, ", "wrong: unsigned8_sums/wrapping_sub: ", "no row names the must-fail edit unsigned8_sums/wrapping_sub.one_too_many"),
     ("A", "clause: the product modulo 2^w\n", "clause: %s\n" % ("the product modulo 2^w " * 6), "more than"),
-    ("A", "clause: the product modulo 2^w\nrestated: vstd_integers/Unsigned.wrapping-mul\n", "restated: vstd_integers/Unsigned.wrapping-mul\nclause: the product modulo 2^w\n", "not in the order"),
+    ("A", "clause: the product modulo 2^w\nrestated: vstd_integers/Unsigned.wrapping_mul\n", "restated: vstd_integers/Unsigned.wrapping_mul\nclause: the product modulo 2^w\n", "not in the order"),
     ("A", "theory_whole/Order.numbered)", "theory_whole/Order.counted)", "theory_whole/Order.counted does not exist"),
-    ("A", "law: vstd_integers/Compare.cmp-kept\n", "", "no law leads from the contract"),
+    ("A", "law: vstd_integers/Compare.cmp_kept\n", "", "no law leads from the contract"),
     ("D", "<[T]>::{first,last,first_mut,", "<[T]>::{first,first_mut,", "no row for no_unwind of std_specs--slice <[T]>::last"),
-    ("B", "law: vstd_zeros/Zeros.vstd-trailing-ones-is\n", "law: vstd_zeros/Zeros.vstd-trailing-zeros-is\n", "does not conclude"),
-    ("B", "law: vstd_zeros/Zeros.trailing-zeros-facts\n", "law: theory_digits/Facts.low-facts\n", "does not conclude"),
-    ("B", "law: vstd_zeros/Zeros.vstd-trailing-zeros-unfolds, vstd-trailing-zeros-is\n", "law: vstd_zeros/Zeros.vstd-trailing-zeros-unfolds\n", "names anything of ours"),
-    ("C", "law: kit/Bits.and-mask\n", "law: kit/Bits.and-masks\n", "which does not exist"),
+    ("B", "law: vstd_zeros/Zeros.vstd_trailing_ones_is\n", "law: vstd_zeros/Zeros.vstd_trailing_zeros_is\n", "does not conclude"),
+    ("B", "law: vstd_zeros/Zeros.trailing_zeros_facts\n", "law: theory_digits/Facts.low_facts\n", "does not conclude"),
+    ("B", "law: vstd_zeros/Zeros.vstd_trailing_zeros_unfolds, vstd_trailing_zeros_is\n", "law: vstd_zeros/Zeros.vstd_trailing_zeros_unfolds\n", "names anything of ours"),
+    ("C", "law: kit/Bits.and_mask\n", "law: kit/Bits.and_masks\n", "which does not exist"),
     ("F", "item: beyond vstd\n", "item: beyond vstd\nverdict: same\n", "what is beyond vstd has no verdict"),
 ]
 OTHER_DAMAGES = [
-    ("FINDINGS.md", ".longer-clause-open", ".longer-clause-closed"),
+    ("FINDINGS.md", ".longer_clause_open", ".longer_clause_closed"),
     ("FINDINGS.md", "`split_at_mut`", "`split_at_must`"),
     ("GLOSSARY.md", "Fit.wrap`", "Fit.wraps`"),
     ("GLOSSARY.md", "sum_of_255_refused", "sum_of_256_refused"),

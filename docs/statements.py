@@ -1,5 +1,5 @@
 """Reads what the library says: the statements of laws and definitions (crates/*/specs, crates/*/proofs), the contracts of functions (crates/*/src) and the
-names of must-fail edits. A law or a definition is named by the crate and the file it stands in, vstd_slices/Slices.get-kept; a function by its crate,
+names of must-fail edits. A law or a definition is named by the crate and the file it stands in, vstd_slices/Kept.get_kept; a function by its crate,
 slices::get, an exported one by its name alone, pb_bytes_get; an edit by its crate, slices/get.one_past_the_end. Names of the kit's libraries begin with kit/."""
 import collections
 import glob
@@ -9,8 +9,8 @@ import shutil
 
 ROOT = os.path.dirname(os.path.dirname(os.path.abspath(__file__)))
 SIGNATURE = re.compile(r"( *)((?:unfoldable |abbrev )*)(pub )?((?:unfoldable |abbrev )*)(record |data )?([^\s(){}:]+)((?: *[({][^:=]*:[^=]*[)}])*(?: \{\w+\})?) :(?: |$)(.*)")
-USE = re.compile(r"^(?:ghost )?use Rattle·(\w+)(?:·\w+)?\.(?:specs|proofs)\.(\w+)(?:\.\{([^}]*)\}| as (\w+))?;?$", re.M)
-BUILT_IN = ("_+_", "_-_", "_*_", "_/_", "_%_", "_^_", "_≤_", "_<_")  # of the kit's Prim.Native.Nat, which no file declares
+USE = re.compile(r"^(?:ghost )?use Rattle\.(?!std\.)(\w+)\.(?:specs|proofs)\.(\w+)(?:\.\{([^}]*)\}| as (\w+))?;?$", re.M)
+BUILT_IN = ("◌+◌", "◌-◌", "◌*◌", "◌/◌", "◌%◌", "◌^◌", "◌≤◌", "◌<◌")  # of the kit's Prim.Native.Nat, which no file declares
 PUNCTUATION = re.compile(r"[\s(){}\[\],;⌜⌝]+")
 
 
@@ -41,8 +41,8 @@ def words(text):
 
 
 def names_in(text, meaning):
-    """The full names of the words of a text, in a file where `meaning` says which name a word stands for. Of the kit's, its word without underscores."""
-    return {meaning.get(word, "kit " + word.split(".")[-1].strip("_")) for word in words(text)}
+    """The full names of the words of a text, in a file where `meaning` says which name a word stands for. Of the kit's, its word without places for operands."""
+    return {meaning.get(word, "kit " + word.split(".")[-1].strip("◌")) for word in words(text)}
 
 
 def meanings(crate, file, text, own):
@@ -153,7 +153,7 @@ def kit(name):
         return True
     root = os.path.dirname(os.path.dirname(os.path.realpath(rt)))
     file, name = name[len("kit/") :].split(".", 1)
-    places = [os.path.join(root, "logic", "*", file + ".antt"), os.path.join(root, "antt", "lib", "**", file + ".antt")]
+    places = [os.path.join(root, "rattle", "logic", "*", file + ".antt"), os.path.join(root, "rattle", "antt", "lib", "**", file + ".antt")]
     declared = re.compile(r"^ *(?:unfoldable |abbrev )*(?:pub )?(?:unfoldable |abbrev )*(?:data |record )?%s(?: [({].*)? :" % re.escape(name), re.M)
     found = [path for place in places for path in glob.glob(place, recursive=True)]
     return file == "Nat" and name in BUILT_IN or any(declared.search(read(path)) for path in found)

@@ -1,8 +1,11 @@
 """crates.txt as the tests read it: each crate with what it stands on, directly or through others, and what stands on it."""
+import glob
 import os
+import re
 
 ROOT = os.path.dirname(os.path.dirname(os.path.abspath(__file__)))
 FOREIGN = {"io", "libc", "os"}  # the kit's libraries of foreign functions
+STD = re.compile(r"\bstd\s*::|\bHostRuntime\b|\bprintln!")  # what a crate's text has that calls Rattle's own standard library, which stands on those
 
 
 def parsed(text):
@@ -36,6 +39,27 @@ def programs(crates):
     return [crate for crate in crates if os.path.exists(os.path.join(ROOT, "crates", crate, "src", "main.rt"))]
 
 
+def code(crate):
+    """A crate's source, without comments."""
+    texts = []
+    for path in sorted(glob.glob(os.path.join(ROOT, "crates", crate, "src", "**", "*.rt"), recursive=True)):
+        with open(path, encoding="utf-8") as file:
+            texts.append(re.sub(r"(?m)//.*$", "", file.read()))
+    return "\n".join(texts)
+
+
+def reaching(crates):
+    """The crates that call the standard library, or stand on what does."""
+    own = {crate for crate in crates if STD.search(code(crate)) or FOREIGN & set(crates[crate])}
+    return {crate for crate in crates if crate in own or own & below(crate, crates)}
+
+
 def libraries(crates):
-    """The crates that stand on none of the kit's libraries of foreign functions."""
-    return [crate for crate in crates if crate not in programs(crates) and not FOREIGN & below(crate, crates)]
+    """The crates that are no program and call nothing of the standard library, directly or through others."""
+    beyond = {*reaching(crates), *programs(crates)}
+    return [crate for crate in crates if crate not in beyond]
+
+
+def of_the_library(text):
+    """The crates that a crates.txt lists above the heading of the programs."""
+    return list(parsed(text.partition("\n# programs: ")[0]))

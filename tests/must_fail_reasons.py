@@ -1,29 +1,47 @@
 #!/usr/bin/env python3
 """Each must-fail edit is refused because a fact fails, and not because a proof no longer fits the code or the definitions.
 
-    python3 tests/must_fail_reasons.py                 exit status 1, and a line for each fault
-    python3 tests/must_fail_reasons.py CRATE/EDIT..    the same question of these edits
+    python3 tests/must_fail_reasons.py LOG                 exit status 1, and a line for each fault
+    python3 tests/must_fail_reasons.py LOG CRATE/EDIT..    the same question of these edits
 
-Reads what the prover said of each edit (target/must-fail/CRATE/EDIT/.log, as `rt ci` and tests/changed leave it). An edit of a function is refused by a fact
-where what it says first is of a need that could not be shown, and not that a proof names a need that the edited code does not have. An edit of a definition is
-refused by a fact where a law that is stated without it says so: a worked value is computed to be another (proofs/Worked.antt), a pinning law has two answers
-(its name says pinned, or it is what such a law waits for), or arithmetic does not follow and the numbers are shown at which it fails. Other lines that only
-wait for what another line refuses are passed over."""
+LOG is what `rt ci` or `rt must-fail` said. It has a line for each edit, with one thing that the prover said of it. Where that is a fact that fails, the edit is
+refused by it. Elsewhere the edit is made in a copy of its crate, outside the repository, and `rt check` there says all of it.
+
+An edit of a function is refused by a fact where what is said first is of a goal that could not be shown, and not that a proof names what the edited code does
+not have. A changed condition changes the names of its goals and of what is known behind it: these are put right in the copy's proof, by the names that the
+prover tells, and the question is asked again. An edit of a definition is refused by a fact where a law that is stated without it says so: a worked value is
+computed to be another (proofs/Worked.antt), a pinning law has two answers (its name says pinned, or it is what such a law waits for), or arithmetic does not
+follow and the numbers are shown at which it fails. Other lines that only wait for what another line refuses are passed over."""
+import concurrent.futures
 import glob
 import os
 import re
+import shutil
+import subprocess
 import sys
+import tempfile
 
-ROOT = os.path.dirname(os.path.dirname(os.path.abspath(__file__)))
+import crates as listed
+
+ROOT = listed.ROOT
+TOLD = re.compile(r"^rt: must-fail (\S+)\.edit: (.*)", re.M)
+REFUSED = re.compile(r"refused, as it must be(?: \(only because .*?\))?: (.*)")
 ERROR = re.compile(r"^\S+: error: .*|^note: \S+: it is not proved that .*", re.M)
-WAITS = re.compile(r"error: `([^`]+)`: `([^`]+)` was not admitted \(it has holes or undetermined implicits, or was rejected\), so this cannot be checked")
-# Of a function.
-FACT = re.compile(r"/proofs/\S+/Proof\.antt:\d+:\d+: error: `(?!\S+-spec`)|`search`: no proof of |it is not proved that ")
-SHAPE = re.compile(r"has no `Need-|that can be named from here|expected type `tie\.Need-")
+WAITS = re.compile(r"error: \d+ declarations? that depends? on (.*), which .* not checked: (.*)")
+# Of a function: an answer that does not show its goal; a goal that is left, which alone says nothing where names are gone; one that is false at values.
+ANSWER = re.compile(r"proofs/\S+/(?:Answers|Invariants|Proof)\.antt:\d+:\d+: error: `")
+LEFT, FALSE = re.compile(r"it is not proved that "), re.compile(r"it is not proved that .*the facts known there allow values at ")
+SHAPE = re.compile(r"has no field|has no `|that can be named from here|is not in scope|was not admitted")
+# The names that are gone, and those nearest to them.
+FIELD = re.compile(r"proofs/(\S+)/\w+\.antt:\d+:\d+: error: .* has no field `([^`]+)` \(nearest: \.([^)\s,]+)")
+GOAL = re.compile(r"^help: `Goals` has no `([^`]+)`; rattle asks for `([^`]+)`", re.M)
+ROUNDS = 4
 # Of a law.
-LAW = re.compile(r"/proofs/(\w+)\.antt:\d+:\d+: error: `([^`]+)`: (.*)")
+LAW = re.compile(r"proofs/(\w+)\.antt:\d+:\d+: error: `([^`]+)`: (.*)")
 NUMBERS = re.compile(r"`omega`: the goal does not follow from what it read\. All of that holds, and the goal fails, at ")
 MISFIT = re.compile(r"no occurrence of the path|is not determined|projects from a record|is not in scope|is not a function|takes? .* arguments?")
+PROVED = re.compile(r"^logic=proved |^only=1 proved=1$", re.M)
+PARTS = ("src", "specs", "proofs")
 
 
 def by_law(line, pinning):
@@ -35,31 +53,140 @@ def by_law(line, pinning):
     return bool(file == "Worked" and re.search("the two types|expected type", said) or "pinned" in name or name in pinning or NUMBERS.match(said))
 
 
-def fault(log):
-    """What is wrong with the reasons in a log, or None."""
-    if not os.path.exists(log):
-        return "was not tried"
-    with open(log, encoding="utf-8") as file:
-        lines = ERROR.findall(file.read())
+def by_fact(output):
+    """Whether the prover's first line, or a law's, is of a fact that fails; and the first line."""
+    lines = ERROR.findall(output)
     waits = [found.groups() for found in map(WAITS.search, lines) if found]
     said = [line for line in lines if not WAITS.search(line)]
-    pinning = {waited for law, waited in waits if "pinned" in law}
-    if said and (FACT.search(said[0]) and not SHAPE.search(said[0]) or any(by_law(line, pinning) for line in said)):
-        return None
-    return "the prover names no fact that fails, but: %s" % (said[0][:200] if said else "nothing")
+    pinning = {waited for names, laws in waits if "pinned" in laws for waited in re.findall("`([^`]+)`", names)}
+    first = said[0] if said else ""
+    fact = (ANSWER.search(first) or LEFT.search(first)) and not SHAPE.search(first)
+    return bool(fact or any(by_law(line, pinning) for line in said)), first
+
+
+def pairs(edit):
+    """The replacements of an edit: [(file, old, new)]."""
+    found, file, old = [], None, None
+    with open(os.path.join(ROOT, "crates", edit.replace("/", "/must-fail/") + ".edit"), encoding="utf-8") as text:
+        for line in text.read().split("\n"):
+            word, _, rest = line.partition(":")
+            rest = rest[1:] if rest.startswith(" ") else rest
+            if word == "file":
+                file = rest.strip()
+            elif word == "old":
+                old = rest
+            elif word == "new":
+                found.append((file, old, rest))
+    return found
+
+
+def function_of(edit, file, crate):
+    """The function that an edit is of, as `rt check --only` takes it; None where its name says none of the file that is changed."""
+    module, name = os.path.splitext(os.path.basename(file))[0], edit.split("/")[1].split(".")[0]
+    with open(os.path.join(crate, file), encoding="utf-8") as text:
+        if not file.startswith("src/") or not re.search(r"^(?:pub )?(?:extern \"C\" )?fn %s\b" % name, text.read(), re.M):
+            return None
+    return "::".join([os.path.basename(crate)] + ([] if module in ("lib", "main") else [module]) + [name])
+
+
+class Room:
+    """A copy of a crate and of all that it stands on, where its edits are made one after another."""
+
+    def __init__(self, crate, crates, folder):
+        self.crate, self.folder = os.path.join(folder, "crates", crate), folder
+        self.own = os.path.join(ROOT, "crates", crate)
+        wanted = [name for name in crates if name == crate or name in listed.below(crate, crates)]
+        os.makedirs(os.path.join(folder, ".git"))  # it is the top of a repository
+        with open(os.path.join(folder, "crates.txt"), "w", encoding="utf-8") as file:
+            file.writelines("%s: %s\n" % (name, " ".join(crates[name])) for name in wanted)
+        for name in wanted:
+            for part in PARTS:
+                if os.path.isdir(os.path.join(ROOT, "crates", name, part)):
+                    shutil.copytree(os.path.join(ROOT, "crates", name, part), os.path.join(folder, "crates", name, part))
+
+    def restored(self):
+        for part in PARTS:
+            if os.path.isdir(os.path.join(self.own, part)):
+                shutil.rmtree(os.path.join(self.crate, part))
+                shutil.copytree(os.path.join(self.own, part), os.path.join(self.crate, part))
+
+    def changed(self, path, change):
+        with open(path, encoding="utf-8") as file:
+            text = file.read()
+        with open(path, "w", encoding="utf-8") as file:
+            file.write(change(text))
+
+    def said(self, *words):
+        ran = subprocess.run(["rt", "check", *words], cwd=self.crate, stdout=subprocess.PIPE, stderr=subprocess.STDOUT, errors="replace", check=False)
+        return ran.stdout
+
+    def fault(self, edit):
+        self.restored()
+        replaced = pairs(edit)
+        for file, old, new in replaced:
+            self.changed(os.path.join(self.crate, file), lambda text, old=old, new=new: text.replace(old, new))
+        output = self.put_right(function_of(edit, replaced[0][0], self.crate))
+        if PROVED.search(output) or not re.search(r"^(?:logic|only)=", output, re.M):
+            output = self.put_right()
+        if PROVED.search(output):
+            return "is proved, once its proof has the names that the edited code has"
+        fact, first = by_fact(output)
+        return None if fact else "the prover names no fact that fails, but: %s" % (first[:200] or "nothing")
+
+    def put_right(self, function=None):
+        """What is said of the crate, or of one function, once the names in its proof are right."""
+        words = ["--only", function] if function else []
+        output = self.said(*words)
+        for _ in range(ROUNDS):
+            if not self.renamed(output):
+                break
+            output = self.said(*words)
+        return output
+
+    def renamed(self, output):
+        """Puts the names right that proofs of functions have, and the edited code has not; whether there were any."""
+        goals, of_functions = dict(GOAL.findall(output)), {}
+        for line in ERROR.findall(output):
+            field, gone = FIELD.search(line), re.search(r"proofs/(\S+)/\w+\.antt:.*module `[^`]*Goals` has no `([^`]+)`", line)
+            if field:
+                of_functions.setdefault(field.group(1), {})[field.group(2)] = field.group(3)
+            elif gone and gone.group(2) in goals:
+                of_functions.setdefault(gone.group(1), {})[gone.group(2)] = goals[gone.group(2)]
+        for function, names in of_functions.items():
+            for path in glob.glob(os.path.join(self.crate, "proofs", function, "*.antt")):
+                self.changed(path, lambda text, names=names: re.sub(r"[\w'-]+", lambda word: names.get(word.group(), word.group()), text))
+        return bool(of_functions)
+
+
+def looked_into(crate, edits, crates, folder):
+    """The faults of a crate's edits. What rt builds of the crates below stays for the next ones, which take it over."""
+    room = Room(crate, crates, os.path.join(folder, crate))
+    found = [(edit, room.fault(edit)) for edit in edits]
+    for kept in glob.glob(os.path.join(room.folder, "crates", "*", "out", "incremental")):
+        shutil.rmtree(kept)
+    return found
 
 
 def main():
+    if len(sys.argv) < 2:
+        sys.exit(__doc__)
+    with open(sys.argv[1], encoding="utf-8", errors="replace") as file:
+        told = dict(TOLD.findall(file.read()))
     edits = sorted("/".join(path.split(os.sep)[-3::2])[: -len(".edit")] for path in glob.glob(os.path.join(ROOT, "crates", "*", "must-fail", "*.edit")))
-    asked = sys.argv[1:] or edits
-    faults = ["%s: there is no such edit" % edit for edit in asked if edit not in edits]
-    for edit in asked:
-        found = fault(os.path.join(ROOT, "target", "must-fail", edit, ".log")) if edit in edits else None
-        if found:
-            faults.append("%s: %s" % (edit, found))
+    asked = sys.argv[2:] or edits
+    faults, open_ones, crates = ["%s: there is no such edit" % edit for edit in asked if edit not in edits], {}, listed.graph()
+    for edit in (edit for edit in asked if edit in edits):
+        refused = REFUSED.match(told.get(edit, ""))
+        if not refused:
+            faults.append("%s: %s" % (edit, told.get(edit, "was not tried")))
+        elif not (FALSE.search(refused.group(1)) or ANSWER.search(refused.group(1)) and not SHAPE.search(refused.group(1)) or by_law(refused.group(1), ())):
+            open_ones.setdefault(edit.split("/")[0], []).append(edit)
+    with tempfile.TemporaryDirectory() as folder, concurrent.futures.ThreadPoolExecutor(max(1, (os.cpu_count() or 1) // 2)) as pool:
+        for found in pool.map(lambda crate: looked_into(crate, open_ones[crate], crates, folder), open_ones):
+            faults += ["%s: %s" % (edit, fault) for edit, fault in found if fault]
     for line in faults:
         print("must-fail edits: " + line)
-    print("must-fail edits: %d asked, %d faults" % (len(asked), len(faults)))
+    print("must-fail edits: %d asked, %d of them looked into, %d faults" % (len(asked), sum(map(len, open_ones.values())), len(faults)))
     sys.exit(1 if faults else 0)
 
 

@@ -8,10 +8,10 @@ def mangled(name):
 
 
 def names_in(parts):
-    """All names that stand in expressions, operators as `_+_`."""
+    """All names that stand in expressions, operators as `◌+◌`."""
     for part in parts:
         if isinstance(part, tuple) and part and part[0] == "operator":
-            yield "_%s_" % part[2]
+            yield "◌%s◌" % part[2]
         if isinstance(part, tuple) and part and part[0] == "name":
             yield part[2]
         elif isinstance(part, (tuple, list)):
@@ -35,7 +35,7 @@ class Expression:
         return self.applied(line, name, [])
 
     def of_operator(self, line, sign, left, right):
-        return self.applied(line, "_%s_" % sign, [left, right])
+        return self.applied(line, "◌%s◌" % sign, [left, right])
 
     def of_apply(self, line, head, arguments):
         return self.applied(line, head[2], arguments) if head[0] == "name" else self.refuse(line, "an application of %s" % head[0])

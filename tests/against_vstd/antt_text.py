@@ -7,7 +7,7 @@ from faults import NotUnderstood
 from kit import FIXITIES
 
 COMMENT = re.compile(r"(^|\s)--.*$")
-TOKEN = re.compile(r"[(){};,]|[^\s(){};,]+")
+TOKEN = re.compile(r"[(){};,]|\.?[^\s(){};,.]+")
 USE = re.compile(r"use ([^\s{]+?)(?:\.\{([^}]*)\})?$")
 FIXITY = re.compile(r"(infix|infixl|infixr) (\d+) (.*)$")
 SIDES = {"infix": "none", "infixl": "left", "infixr": "right"}
@@ -53,14 +53,14 @@ def module_of(file, text, fixity_from):
         if use and use.group(2) is not None:
             for name in filter(None, map(str.strip, use.group(2).split(","))):
                 module.imports[name] = use.group(1)
-                operator = name.strip("_")
-                if name.startswith("_") and operator not in FIXITIES:
+                operator = name.strip("◌")
+                if name.startswith("◌") and operator not in FIXITIES:
                     module.fixities[operator] = fixity_from(use.group(1), operator)
         elif whole.startswith("use "):
             raise NotUnderstood(file, lines[0][0], whole)
         elif fixity:
             for operator in fixity.group(3).split():
-                module.fixities[operator.strip("_")] = int(fixity.group(2)), SIDES[fixity.group(1)]
+                module.fixities[operator.strip("◌")] = int(fixity.group(2)), SIDES[fixity.group(1)]
     for lines in declared:
         if not lines[0][1].startswith(("use ", "infix", "pub mod ")):
             Reader(module, tokens_of(lines)).declaration(lines)
@@ -131,7 +131,7 @@ class Reader:
         line, left = self.tokens[0].line, self.expression(0)
         self.expect("=")
         right = self.whole()
-        head, patterns = ("_%s_" % left[2], list(left[3:])) if left[0] == "operator" else (left[2], []) if left[0] == "name" else (left[2][2], left[3])
+        head, patterns = ("◌%s◌" % left[2], list(left[3:])) if left[0] == "operator" else (left[2], []) if left[0] == "name" else (left[2][2], left[3])
         if head not in self.module.functions:
             self.refuse("a clause of %s, which has no type" % head)
         self.module.functions[head].append((line, patterns, right))
@@ -160,7 +160,7 @@ class Reader:
     def is_binder(self):
         """`(x y : A) → ..`"""
         ahead = 1
-        while self.peek() == "(" and re.fullmatch(r"[^\W\d][\w'′-]*", self.peek(ahead)):
+        while self.peek() == "(" and re.fullmatch(r"[^\W\d][\w']*", self.peek(ahead)):
             ahead += 1
         return ahead > 1 and self.peek(ahead) == ":"
 

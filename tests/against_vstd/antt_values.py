@@ -10,7 +10,7 @@ from antt_expressions import Expression, mangled, names_in
 from antt_text import module_of
 from faults import Fault, NotUnderstood
 
-THEIRS = re.compile(r"Rattle·(\w+?)(?:·specs)?\.specs\.(.+)$")
+THEIRS = re.compile(r"Rattle\.(?!std\.)(\w+)\.specs\.(.+)$")
 RESTATING = "vstd_*"
 REMEMBERED = 1 << 12
 
@@ -104,7 +104,7 @@ class Definitions:
     def matched(self, module, pattern, code, tests, bound):
         """Adds what a pattern tests of a value, and what its names stand for."""
         (form, line), parts = pattern[:2], []
-        head, arguments = (pattern[2][2], pattern[3]) if form == "apply" else ("_%s_" % pattern[2], pattern[3:]) if form == "operator" else (pattern[2], [])
+        head, arguments = (pattern[2][2], pattern[3]) if form == "apply" else ("◌%s◌" % pattern[2], pattern[3:]) if form == "operator" else (pattern[2], [])
         if form == "number":
             tests.append("%s == %d" % (code, pattern[2]))
         elif head in ("zero", "suc"):
@@ -115,7 +115,7 @@ class Definitions:
             parts = [code if head == "pos" else "(-1 - %s)" % code]
         elif head in ("true", "false"):
             tests.append("%s is %s" % (code, head.capitalize()))
-        elif head in ("[]", "_∷_"):
+        elif head in ("[]", "◌∷◌"):
             tests.append(("not %s" if head == "[]" else "%s") % code)
             parts = ["%s[0]" % code, "%s[1:]" % code]
         elif self.constructor(module, head) is not None:

@@ -29,9 +29,9 @@ CLAUSES = (
     Change("another character", "std_specs--char", r"'\u{205F}'", r"'\u{205E}'", "std_specs--char char::is_whitespace"),
 )
 DEFINITIONS = (
-    Change("the wrong test", "Unsigned", "ltZ (MAX w) (x *ℤ y)", "ltZ (MAX w) (x +ℤ y)", "std_specs--num u8::checked_mul"),
-    Change("the wrong division", "Signed", "(remZ lhs rhs)", "(emod lhs rhs)", "std_specs--num i8::checked_rem"),
-    Change("the other way round", "Compare", "cond (ltZ y x) Greater Equal", "cond (ltZ y x) Equal Greater", "std_specs--num i64::cmp"),
+    Change("the wrong test", "Unsigned", "lt_z (MAX w) (x *ℤ y)", "lt_z (MAX w) (x +ℤ y)", "std_specs--num u8::checked_mul"),
+    Change("the wrong division", "Signed", "(rem_z lhs rhs)", "(emod lhs rhs)", "std_specs--num i8::checked_rem"),
+    Change("the other way round", "Compare", "cond (lt_z y x) Greater Equal", "cond (lt_z y x) Equal Greater", "std_specs--num i64::cmp"),
     Change("a step too few", "Zeros", "cond (eqb i 0) w (leading", "cond (eqb i 1) w (leading", "std_specs--bits u8::leading_zeros"),
     Change("another mask", "Bytes", " 255 ∷", " 254 ∷", "bytes u32_to_le_bytes"),
     Change("another character", "Text", "0x3000", "0x3001", "std_specs--char is_white_space"),
@@ -43,7 +43,7 @@ REFUSED = (
     Change("a type that does not fit", "wrapping", "x << (shift % $bits)", "(x + 0) << (shift % $bits)", "not understood: a shift of int"),
     Change("an attribute that is not known", "std_specs--char", "#[verifier::allow_in_spec]", "#[only_on(tuesdays)]", "not understood: the attribute"),
     Change("an item that nobody takes up", "std_specs--char", "} // verus!", "pub proof fn added(c: char) ensures c == c { } }", "neither taken up nor left out"),
-    Change("an item that is restated nowhere", "utf8", "/* ASCII */", "pub open spec fn is_nothing(b: u8) -> bool { false }", "does not restate is-nothing"),
+    Change("an item that is restated nowhere", "utf8", "/* ASCII */", "pub open spec fn is_nothing(b: u8) -> bool { false }", "does not restate is_nothing"),
 )
 
 

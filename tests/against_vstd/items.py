@@ -32,7 +32,7 @@ WORDS_OF_OUR_OWN = {
 }
 
 # For unsigned numbers both pairs of divisions are one, and so is their promise.
-SAME_PROMISE = {("Unsigned", "checked-div-euclid"): "checked-div", ("Unsigned", "checked-rem-euclid"): "checked-rem"}
+SAME_PROMISE = {("Unsigned", "checked_div_euclid"): "checked_div", ("Unsigned", "checked_rem_euclid"): "checked_rem"}
 
 # What vstd's traits of comparing (std_specs/cmp) read off the three definitions that each type gives them.
 LESS, EQUAL, GREATER = (("Some", (name,)) for name in ("Less", "Equal", "Greater"))
@@ -47,7 +47,7 @@ READ_OFF = {
     "ge": lambda eq, cmp, partial: partial in (GREATER, EQUAL),
 }
 # requirements of lemmas that may have names of their own here: the first clause of each
-REQUIREMENTS = {"partial_valid_utf8_extend_ascii_block": "Ascii-block"}
+REQUIREMENTS = {"partial_valid_utf8_extend_ascii_block": "AsciiBlock"}
 OBEYS = ("obeys_eq_spec", "obeys_cmp_spec", "obeys_partial_cmp_spec")
 
 
@@ -61,6 +61,11 @@ def kind_of(item):
     if not found:
         raise Fault("%s, line %d: %s is about no machine type" % (item.file, item.line, item.key))
     return found.group(1)
+
+
+def as_type(name):
+    """The name of a definition into types: ValidUtf8 restates valid_utf8."""
+    return "".join(part[:1].upper() + part[1:] for part in name.split("_"))
 
 
 class Items:
@@ -79,8 +84,7 @@ class Items:
 
     def ours(self, family, name, *first, given=None):
         """A restated definition, given its first arguments; where `given` says how many vstd's has, only if it takes more."""
-        dashed = name.replace("_", "-")
-        module, found = self.restating(family, SAME_PROMISE.get((family, dashed), dashed), dashed[0].upper() + dashed[1:])
+        module, found = self.restating(family, SAME_PROMISE.get((family, name), name), as_type(name))
         function = self.definitions.function(module, found)
         return functools.partial(function, *first) if first and (given is None or self.definitions.parameters(module, found) > given) else function
 
@@ -151,9 +155,9 @@ class Items:
         every = lambda: ((number,) for number in (range(1 << width) if width == 8 else arguments.every_power(kind)))
         if item.kind == "proof":
             edges = lambda *_: ((number,) for number in arguments.every_power(kind))
-            facts = self.definitions.facts(*self.restating("Zeros", operation.title().replace("_", "") + "Facts"))
+            facts = self.definitions.facts(*self.restating("Zeros", as_type(operation) + "Facts"))
             return [Facts(self.library, item, "%s_%s" % (kind, operation), facts, width, edges), Statement(self.library, item, edges)]
-        ours = self.ours("Zeros", "vstd-" + operation, width)
+        ours = self.ours("Zeros", "vstd_" + operation, width)
         if item.kind == "spec":
             return Definition(self.library, item, ours, every)
         return Promise(self.library, item, ours, every, "%s.%s" % (item.owner, item.name)) if item.kind == "promise" else None
@@ -168,11 +172,11 @@ class Items:
         if item.kind == "proof":
             return Statement(self.library, item, lambda kinds: lists() if kinds == (arguments.BYTES,) else arguments.tried(kinds))
         if item.kind == "spec":
-            ours = self.ours("Bytes", "spec-from-le-bytes", width, count - 1) if reads else self.ours("Bytes", "spec-to-le-bytes", count)
+            ours = self.ours("Bytes", "spec_from_le_bytes", width, count - 1) if reads else self.ours("Bytes", "spec_to_le_bytes", count)
             return Definition(self.library, item, ours, lists if reads else numbers)
         if item.kind == "exec":
             asked = "%s.%s_le_bytes" % (kind, "from" if reads else "to")
-            ours = self.ours("Bytes", "from-le-bytes", width, count - 1) if reads else self.ours("Bytes", "spec-to-le-bytes", count)
+            ours = self.ours("Bytes", "from_le_bytes", width, count - 1) if reads else self.ours("Bytes", "spec_to_le_bytes", count)
             return Promise(self.library, item, ours, lists if reads else numbers, asked)
         return None
 
