@@ -5,7 +5,7 @@
     python3 tests/must_fail_reasons.py LOG CRATE/EDIT..    the same question of these edits
 
 LOG is what `rt ci` or `rt must-fail` said. It has a line for each edit, with one thing that the prover said of it. Where that is a fact that fails, the edit is
-refused by it. Elsewhere the edit is made in a copy of its crate, outside the repository, and `rt check` there says all of it.
+refused by it. Elsewhere the edit is made in a copy of its crate, outside the repository, and the kit's checker says all of it.
 
 An edit of a function is refused by a fact where what is said first is of a goal that could not be shown, and not that a proof names what the edited code does
 not have. A changed condition changes the names of its goals and of what is known behind it: these are put right in the copy's proof, by the names that the
@@ -24,6 +24,7 @@ import tempfile
 import crates as listed
 
 ROOT = listed.ROOT
+KIT = os.path.dirname(os.path.dirname(os.path.realpath(shutil.which("rt") or "")))
 TOLD = re.compile(r"^rt: must-fail (\S+)\.edit: (.*)", re.M)
 REFUSED = re.compile(r"refused, as it must be(?: \(only because .*?\))?: (.*)")
 ERROR = re.compile(r"^\S+: error: .*|^note: \S+: it is not proved that .*", re.M)
@@ -81,7 +82,7 @@ def pairs(edit):
 
 
 def function_of(edit, file, crate):
-    """The function that an edit is of, as `rt check --only` takes it; None where its name says none of the file that is changed."""
+    """The function that an edit is of, as the checker's --only takes it; None where its name says none of the file that is changed."""
     module, name = os.path.splitext(os.path.basename(file))[0], edit.split("/")[1].split(".")[0]
     with open(os.path.join(crate, file), encoding="utf-8") as text:
         if not file.startswith("src/") or not re.search(r"^(?:pub )?(?:extern \"C\" )?fn %s\b" % name, text.read(), re.M):
@@ -90,24 +91,25 @@ def function_of(edit, file, crate):
 
 
 class Room:
-    """A copy of a crate and of all that it stands on, where its edits are made one after another."""
+    """A copy of a crate, where its edits are made one after another, over the libraries that bindings/libraries sees to."""
 
     def __init__(self, crate, crates, folder):
-        self.crate, self.folder = os.path.join(folder, "crates", crate), folder
-        self.own = os.path.join(ROOT, "crates", crate)
-        wanted = [name for name in crates if name == crate or name in listed.below(crate, crates)]
-        os.makedirs(os.path.join(folder, ".git"))  # it is the top of a repository
-        with open(os.path.join(folder, "crates.txt"), "w", encoding="utf-8") as file:
-            file.writelines("%s: %s\n" % (name, " ".join(crates[name])) for name in wanted)
-        for name in wanted:
-            for part in PARTS:
-                if os.path.isdir(os.path.join(ROOT, "crates", name, part)):
-                    shutil.copytree(os.path.join(ROOT, "crates", name, part), os.path.join(folder, "crates", name, part))
+        self.crate, self.own = os.path.join(folder, crate), os.path.join(ROOT, "crates", crate)
+        os.makedirs(self.crate)
+        rlib = os.path.join(ROOT, "crates", "%s", "out", "rlib")
+        below = [name for name in crates if name in listed.below(crate, crates)]
+        # rattle's words for a library, as rt gives them
+        self.words = ["--crate-name", crate, "src/lib.rt", "--antt-project", os.path.join(KIT, "rattle", "logic", "antt-project.json"), "--links", crate + "="]
+        self.words += ["--logic-built", os.path.join(KIT, "logic_built"), "--incremental", os.path.join(folder, crate + ".kept"), "--jobs", "2"]
+        self.words += ["--extern", "std=" + os.path.join(KIT, "rlibs", "std.rlib"), "-L", "dependency=" + os.path.join(KIT, "rlibs")]
+        for name in below:
+            direct = ["--extern", "%s=%s" % (name, os.path.join(rlib % name, name + ".rlib"))] if name in crates[crate] else []
+            self.words += [*direct, "-L", "dependency=" + rlib % name]
 
     def restored(self):
         for part in PARTS:
             if os.path.isdir(os.path.join(self.own, part)):
-                shutil.rmtree(os.path.join(self.crate, part))
+                shutil.rmtree(os.path.join(self.crate, part), ignore_errors=True)
                 shutil.copytree(os.path.join(self.own, part), os.path.join(self.crate, part))
 
     def changed(self, path, change):
@@ -117,8 +119,8 @@ class Room:
             file.write(change(text))
 
     def said(self, *words):
-        ran = subprocess.run(["rt", "check", *words], cwd=self.crate, stdout=subprocess.PIPE, stderr=subprocess.STDOUT, errors="replace", check=False)
-        return ran.stdout
+        whole = [os.path.join(KIT, "bin", "rattle"), "check", *self.words, *words]
+        return subprocess.run(whole, cwd=self.crate, stdout=subprocess.PIPE, stderr=subprocess.STDOUT, errors="replace", check=False).stdout
 
     def fault(self, edit):
         self.restored()
@@ -158,13 +160,19 @@ class Room:
         return bool(of_functions)
 
 
-def looked_into(crate, edits, crates, folder):
-    """The faults of a crate's edits. What rt builds of the crates below stays for the next ones, which take it over."""
-    room = Room(crate, crates, os.path.join(folder, crate))
-    found = [(edit, room.fault(edit)) for edit in edits]
-    for kept in glob.glob(os.path.join(room.folder, "crates", "*", "out", "incremental")):
-        shutil.rmtree(kept)
-    return found
+def looked_into(open_ones, crates):
+    """The faults of edits, by crate."""
+    if open_ones and subprocess.run([os.path.join(ROOT, "bindings", "libraries"), *open_ones], stdout=subprocess.DEVNULL, check=False).returncode:
+        yield from ((edit, "what its crate stands on is not built") for edits in open_ones.values() for edit in edits)
+        return
+    with tempfile.TemporaryDirectory() as folder, concurrent.futures.ThreadPoolExecutor(max(1, (os.cpu_count() or 1) // 2)) as pool:
+
+        def of_crate(crate):
+            room = Room(crate, crates, folder)
+            return [(edit, room.fault(edit)) for edit in open_ones[crate]]
+
+        for found in pool.map(of_crate, open_ones):
+            yield from found
 
 
 def main():
@@ -181,9 +189,7 @@ def main():
             faults.append("%s: %s" % (edit, told.get(edit, "was not tried")))
         elif not (FALSE.search(refused.group(1)) or ANSWER.search(refused.group(1)) and not SHAPE.search(refused.group(1)) or by_law(refused.group(1), ())):
             open_ones.setdefault(edit.split("/")[0], []).append(edit)
-    with tempfile.TemporaryDirectory() as folder, concurrent.futures.ThreadPoolExecutor(max(1, (os.cpu_count() or 1) // 2)) as pool:
-        for found in pool.map(lambda crate: looked_into(crate, open_ones[crate], crates, folder), open_ones):
-            faults += ["%s: %s" % (edit, fault) for edit, fault in found if fault]
+    faults += ["%s: %s" % (edit, fault) for edit, fault in looked_into(open_ones, crates) if fault]
     for line in faults:
         print("must-fail edits: " + line)
     print("must-fail edits: %d asked, %d of them looked into, %d faults" % (len(asked), sum(map(len, open_ones.values())), len(faults)))
