@@ -21,7 +21,7 @@ STEP = re.compile(r"^(.*): (\d+)$", re.M)
 TABLE = os.path.join(os.path.dirname(os.path.abspath(__file__)), "seconds.txt")
 SHORT = 4  # seconds that a crate without a line of the table is taken to need
 SHOWN = 20
-HEAD = """# About how many seconds the proof of each crate takes, as rt printed them, one at a time;
+HEAD = """# About how many seconds the proof of each crate takes, by the clock, one at a time;
 # of a crate that is not named, %d or fewer. bindings/progress guesses by it; .ci/times.py --table writes it anew from a run of rt ci.
 """
 
