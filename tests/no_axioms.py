@@ -5,10 +5,10 @@
     python3 tests/no_axioms.py LOG CRATE..     the same question of these crates, say of a program, of which the answer is that it does
 
 A library crate is no program and calls nothing of Rattle's standard library, which stands on foreign functions, directly or through others: each crate that
-crates.txt lists above the programs is one. LOG is what `rt ci` or `rt check` said. Where it has the verdict on a crate, that is read: the line `logic=proved ..`,
-which has `foreign=` where the crate declares functions that are not proved and `axioms=` where the check of a program or a static library reached any, and lines
-`axioms LIBRARY: ..`, which name them. Of a crate whose proof rt had kept of the same files, it says only that: so the text of each crate is read, too, in which
-nothing may be declared that is not proved. Without CRATE.. the programs' own axioms are looked for as well: a reader that does not see those would see none."""
+crates.txt lists above the programs is one. LOG is what `rt ci` or `rt check` said. Where it has the verdict on a crate, that is read: the line
+`logic=proved ..`, which has `foreign=` where the crate declares functions that are not proved and `axioms=` where the check of a program or a static library
+reached any, and lines `axioms LIBRARY: ..`, which name them. Of a crate whose proof rt had kept of the same files, it says only that: so the text of each crate
+is read, too, in which nothing may be declared that is not proved. Without CRATE.. the programs' own axioms are looked for as well: a reader that does not see those would see none."""
 import glob
 import os
 import re
@@ -24,7 +24,8 @@ DECLARED = {"src/*.rt": re.compile(r'\bextern\s+"[^"]*"\s*\{'), "*s/**/*.antt": 
 
 def verdicts(log):
     """What the check of each crate in a log names that is not proved: {crate: names}."""
-    return {crate: [found.group(1) or found.group(0) for found in NAMED.finditer(said)] for crate, said in BLOCK.findall(log) if re.search(r"^logic=proved ", said, re.M)}
+    proved = {crate: said for crate, said in BLOCK.findall(log) if re.search(r"^logic=proved ", said, re.M)}
+    return {crate: [found.group(1) or found.group(0) for found in NAMED.finditer(said)] for crate, said in proved.items()}
 
 
 def declared(crate):
