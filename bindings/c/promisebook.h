@@ -28,7 +28,7 @@
 #define PB_VERSION_PATCH 0
 #define PB_VERSION "0.2.0"
 
-#define PB_STACK_BYTES 2248
+#define PB_STACK_BYTES 2168
 
 #ifdef __cplusplus
 extern "C" {
