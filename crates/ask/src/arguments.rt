@@ -1,6 +1,7 @@
 // The arguments as one question: joined by single spaces. A person asks so, and is told on standard error why a question has no answer.
-use libc::STDOUT_FILENO;
 use questions::answers;
+use std::env::{Env, FillError};
+use std::io::Write;
 
 // The bytes of the question so far; not ok where there are more than a line can hold.
 #[derive(Clone, Copy)]
@@ -14,34 +15,41 @@ const TOO_LONG: Joined = Joined {
     length: 0,
 };
 
-pub fn answer() {
-    let mut line = io::large_buffer();
-    let question = join_all(&mut line);
+// Whether there is an argument with that number, 0 being the program's name.
+pub fn is_there<E: Env>(env: &E, i: usize) -> bool {
+    let mut room = [0u8; 1];
+    !matches!(env.arg(i, &mut room), Err(FillError::NotPresent))
+}
+
+// Where a write fails there is nobody to tell: the rest is not written.
+pub fn answer<E: Env, W: Write, X: Write>(env: &E, output: &mut W, errors: &mut X) {
+    let mut line = crate::lines::one_line();
+    let question = join_all(env, &mut line);
     let n = question.length;
     if n <= 65536 {
-        reply(question.ok, &line[0..n]);
+        reply(output, errors, question.ok, &line[0..n]);
     }
 }
 
-fn reply(ok: bool, line: &[u8]) {
+fn reply<W: Write, X: Write>(output: &mut W, errors: &mut X, ok: bool, line: &[u8]) {
     let help = promisebook_slices::pb_bytes_equal(line, 0, line.len(), b"--help");
     if help.value {
-        crate::help::print();
+        let _ = crate::help::print(output);
     } else {
-        one_line(ok, line);
+        one_line(output, errors, ok, line);
     }
 }
 
-fn one_line(ok: bool, line: &[u8]) {
+fn one_line<W: Write, X: Write>(output: &mut W, errors: &mut X, ok: bool, line: &[u8]) {
     let mut out = crate::lines::two_lines();
     let end = one_answer(ok, line, &mut out);
     if end <= 131072 {
-        io::write_all(STDOUT_FILENO, &out[0..end]);
+        let _ = output.write_all(&out[0..end]);
     }
     if ok {
-        reasons::tell(line);
+        let _ = reasons::tell(errors, line);
     } else {
-        reasons::tell_too_long();
+        let _ = reasons::tell_too_long(errors);
     }
 }
 
@@ -54,18 +62,18 @@ fn one_answer(ok: bool, line: &[u8], out: &mut [u8]) -> usize {
     answers::line_end(out, end)
 }
 
-fn join_all(line: &mut [u8]) -> Joined {
-    let count = os::arg_count();
-    let mut question = next_argument(line, 0, 1);
-    let mut i = 2;
-    while i < count {
-        question = behind_space(line, question, i);
-        i += 1;
+fn join_all<E: Env>(env: &E, line: &mut [u8]) -> Joined {
+    let mut question = next_argument(env, line, 0, 1);
+    for i in 2..usize::MAX {
+        if !is_there(env, i) {
+            break;
+        }
+        question = behind_space(env, line, question, i);
     }
     question
 }
 
-fn behind_space(line: &mut [u8], question: Joined, i: usize) -> Joined {
+fn behind_space<E: Env>(env: &E, line: &mut [u8], question: Joined, i: usize) -> Joined {
     let at = question.length;
     if !question.ok {
         return TOO_LONG;
@@ -74,22 +82,19 @@ fn behind_space(line: &mut [u8], question: Joined, i: usize) -> Joined {
     if next == at {
         return TOO_LONG;
     }
-    next_argument(line, next, i)
+    next_argument(env, line, next, i)
 }
 
-fn next_argument(line: &mut [u8], at: usize, i: usize) -> Joined {
+fn next_argument<E: Env>(env: &E, line: &mut [u8], at: usize, i: usize) -> Joined {
     if line.len() < at {
         return TOO_LONG;
     }
-    let n = os::arg(i, &mut line[at..]);
-    if os::errno() != 0 {
-        return TOO_LONG;
-    }
-    if line.len() - at < n {
-        return TOO_LONG;
-    }
-    Joined {
-        ok: true,
-        length: at + n,
+    let left = line.len() - at;
+    match env.arg(i, &mut line[at..]) {
+        Ok(n) if n <= left => Joined {
+            ok: true,
+            length: at + n,
+        },
+        _ => TOO_LONG,
     }
 }

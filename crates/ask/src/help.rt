@@ -1,164 +1,176 @@
 // What `ask --help` says: how to ask, and every name with its arguments (written by generate/ from the table of operations).
+use std::io;
+use std::io::Write;
 
-pub fn print() {
-    how_to_ask();
-    legend_of_integers();
-    list_t();
-    list_t_2();
-    list_s();
-    list_s_2();
-    list_u();
-    list_w();
-    legend_of_bytes();
-    list_bytes();
-    list_text();
+pub fn print<W: Write>(out: &mut W) -> io::Result<()> {
+    how_to_ask(out)?;
+    legend_of_integers(out)?;
+    list_t(out)?;
+    list_t_2(out)?;
+    list_s(out)?;
+    list_s_2(out)?;
+    list_u(out)?;
+    list_w(out)?;
+    legend_of_bytes(out)?;
+    list_bytes(out)?;
+    list_text(out)
 }
 
-fn how_to_ask() {
+fn how_to_ask<W: Write>(out: &mut W) -> io::Result<()> {
     show::text(
+        out,
         b"Answers questions about the library's operations: one line for each line of standard input,\nor one line for the arguments.\n\n",
-    );
+    )?;
     show::text(
+        out,
         b"    ask u8.wrapping_add 200 100      44\n    ask i8.checked_div -128 -1       refused\n    ask bytes.reverse 010203 0 2     020103\n\n",
-    );
+    )?;
     show::text(
+        out,
         b"A question is a name and its arguments, with single spaces between. A number is decimal, bytes are\ntwo lowercase hex digits each, and - is no bytes. The answer is the value, or a word:\n\n",
-    );
+    )?;
     show::text(
+        out,
         b"    refused      the operation refuses these arguments\n    unknown      there is no such name\n    malformed    the arguments are not those that the name takes\n",
-    );
+    )
 }
 
-fn legend_of_integers() {
+fn legend_of_integers<W: Write>(out: &mut W) -> io::Result<()> {
     show::text(
+        out,
         b"\nT: u8 u16 u32 u64 usize. S: i8 i16 i32 i64 isize. U: u8 u16 u32 u64. W: u16 u32 u64.\n",
-    );
+    )?;
     show::text(
+        out,
         b"x, y: numbers of the type, y one of the other sign where the name ends in that sign. d: a u32. b: bytes.\nb f t, at: as below.\n\n",
-    );
+    )
 }
 
-fn legend_of_bytes() {
-    show::text(b"\nb f t: bytes, and the part of them from place f up to and without place t.\n");
+fn legend_of_bytes<W: Write>(out: &mut W) -> io::Result<()> {
     show::text(
+        out,
+        b"\nb f t: bytes, and the part of them from place f up to and without place t.\n",
+    )?;
+    show::text(
+        out,
         b"a, at, e, i, m, n: numbers (usize); a, e, i and m are counted from f where there is one. v: a u8.\nc: a u32. other: bytes.\n\n",
-    );
+    )
 }
 
-fn list_t() {
-    show::text(b"    T.wrapping_add x y\n");
-    show::text(b"    T.wrapping_add_signed x y\n");
-    show::text(b"    T.wrapping_sub x y\n");
-    show::text(b"    T.wrapping_mul x y\n");
-    show::text(b"    T.wrapping_shl x d\n");
-    show::text(b"    T.wrapping_shr x d\n");
-    show::text(b"    T.checked_add x y\n");
-    show::text(b"    T.checked_add_signed x y\n");
-    show::text(b"    T.checked_sub x y\n");
-    show::text(b"    T.checked_mul x y\n");
-    show::text(b"    T.checked_next_multiple_of x y\n");
-    show::text(b"    T.checked_div x y\n");
-    show::text(b"    T.checked_div_euclid x y\n");
-    show::text(b"    T.checked_rem x y\n");
-    show::text(b"    T.checked_rem_euclid x y\n");
-    show::text(b"    T.saturating_add x y\n");
-    show::text(b"    T.saturating_sub x y\n");
-    show::text(b"    T.saturating_mul x y\n");
-    show::text(b"    T.is_multiple_of x y\n");
-    show::text(b"    T.clone x\n");
+fn list_t<W: Write>(out: &mut W) -> io::Result<()> {
+    show::text(out, b"    T.wrapping_add x y\n")?;
+    show::text(out, b"    T.wrapping_add_signed x y\n")?;
+    show::text(out, b"    T.wrapping_sub x y\n")?;
+    show::text(out, b"    T.wrapping_mul x y\n")?;
+    show::text(out, b"    T.wrapping_shl x d\n")?;
+    show::text(out, b"    T.wrapping_shr x d\n")?;
+    show::text(out, b"    T.checked_add x y\n")?;
+    show::text(out, b"    T.checked_add_signed x y\n")?;
+    show::text(out, b"    T.checked_sub x y\n")?;
+    show::text(out, b"    T.checked_mul x y\n")?;
+    show::text(out, b"    T.checked_next_multiple_of x y\n")?;
+    show::text(out, b"    T.checked_div x y\n")?;
+    show::text(out, b"    T.checked_div_euclid x y\n")?;
+    show::text(out, b"    T.checked_rem x y\n")?;
+    show::text(out, b"    T.checked_rem_euclid x y\n")?;
+    show::text(out, b"    T.saturating_add x y\n")?;
+    show::text(out, b"    T.saturating_sub x y\n")?;
+    show::text(out, b"    T.saturating_mul x y\n")?;
+    show::text(out, b"    T.is_multiple_of x y\n")?;
+    show::text(out, b"    T.clone x\n")
 }
 
-fn list_t_2() {
-    show::text(b"    T.eq x y\n");
-    show::text(b"    T.ne x y\n");
-    show::text(b"    T.lt x y\n");
-    show::text(b"    T.le x y\n");
-    show::text(b"    T.gt x y\n");
-    show::text(b"    T.ge x y\n");
-    show::text(b"    T.cmp x y\n");
-    show::text(b"    T.compare x y\n");
-    show::text(b"    T.partial_cmp x y\n");
-    show::text(b"    T.read_decimal b f t\n");
-    show::text(b"    T.write_decimal b at x\n");
+fn list_t_2<W: Write>(out: &mut W) -> io::Result<()> {
+    show::text(out, b"    T.eq x y\n")?;
+    show::text(out, b"    T.ne x y\n")?;
+    show::text(out, b"    T.lt x y\n")?;
+    show::text(out, b"    T.le x y\n")?;
+    show::text(out, b"    T.gt x y\n")?;
+    show::text(out, b"    T.ge x y\n")?;
+    show::text(out, b"    T.cmp x y\n")?;
+    show::text(out, b"    T.compare x y\n")?;
+    show::text(out, b"    T.partial_cmp x y\n")?;
+    show::text(out, b"    T.read_decimal b f t\n")?;
+    show::text(out, b"    T.write_decimal b at x\n")
 }
 
-fn list_s() {
-    show::text(b"    S.wrapping_add x y\n");
-    show::text(b"    S.wrapping_add_unsigned x y\n");
-    show::text(b"    S.wrapping_sub x y\n");
-    show::text(b"    S.wrapping_mul x y\n");
-    show::text(b"    S.wrapping_shl x d\n");
-    show::text(b"    S.wrapping_shr x d\n");
-    show::text(b"    S.checked_add x y\n");
-    show::text(b"    S.checked_add_unsigned x y\n");
-    show::text(b"    S.checked_sub x y\n");
-    show::text(b"    S.checked_sub_unsigned x y\n");
-    show::text(b"    S.checked_mul x y\n");
-    show::text(b"    S.checked_div x y\n");
-    show::text(b"    S.checked_div_euclid x y\n");
-    show::text(b"    S.checked_rem x y\n");
-    show::text(b"    S.checked_rem_euclid x y\n");
-    show::text(b"    S.clone x\n");
-    show::text(b"    S.eq x y\n");
-    show::text(b"    S.ne x y\n");
-    show::text(b"    S.lt x y\n");
-    show::text(b"    S.le x y\n");
+fn list_s<W: Write>(out: &mut W) -> io::Result<()> {
+    show::text(out, b"    S.wrapping_add x y\n")?;
+    show::text(out, b"    S.wrapping_add_unsigned x y\n")?;
+    show::text(out, b"    S.wrapping_sub x y\n")?;
+    show::text(out, b"    S.wrapping_mul x y\n")?;
+    show::text(out, b"    S.wrapping_shl x d\n")?;
+    show::text(out, b"    S.wrapping_shr x d\n")?;
+    show::text(out, b"    S.checked_add x y\n")?;
+    show::text(out, b"    S.checked_add_unsigned x y\n")?;
+    show::text(out, b"    S.checked_sub x y\n")?;
+    show::text(out, b"    S.checked_sub_unsigned x y\n")?;
+    show::text(out, b"    S.checked_mul x y\n")?;
+    show::text(out, b"    S.checked_div x y\n")?;
+    show::text(out, b"    S.checked_div_euclid x y\n")?;
+    show::text(out, b"    S.checked_rem x y\n")?;
+    show::text(out, b"    S.checked_rem_euclid x y\n")?;
+    show::text(out, b"    S.clone x\n")?;
+    show::text(out, b"    S.eq x y\n")?;
+    show::text(out, b"    S.ne x y\n")?;
+    show::text(out, b"    S.lt x y\n")?;
+    show::text(out, b"    S.le x y\n")
 }
 
-fn list_s_2() {
-    show::text(b"    S.gt x y\n");
-    show::text(b"    S.ge x y\n");
-    show::text(b"    S.cmp x y\n");
-    show::text(b"    S.compare x y\n");
-    show::text(b"    S.partial_cmp x y\n");
-    show::text(b"    S.read_decimal b f t\n");
-    show::text(b"    S.write_decimal b at x\n");
+fn list_s_2<W: Write>(out: &mut W) -> io::Result<()> {
+    show::text(out, b"    S.gt x y\n")?;
+    show::text(out, b"    S.ge x y\n")?;
+    show::text(out, b"    S.cmp x y\n")?;
+    show::text(out, b"    S.compare x y\n")?;
+    show::text(out, b"    S.partial_cmp x y\n")?;
+    show::text(out, b"    S.read_decimal b f t\n")?;
+    show::text(out, b"    S.write_decimal b at x\n")
 }
 
-fn list_u() {
-    show::text(b"    U.leading_zeros x\n");
-    show::text(b"    U.leading_ones x\n");
-    show::text(b"    U.trailing_zeros x\n");
-    show::text(b"    U.trailing_ones x\n");
+fn list_u<W: Write>(out: &mut W) -> io::Result<()> {
+    show::text(out, b"    U.leading_zeros x\n")?;
+    show::text(out, b"    U.leading_ones x\n")?;
+    show::text(out, b"    U.trailing_zeros x\n")?;
+    show::text(out, b"    U.trailing_ones x\n")
 }
 
-fn list_w() {
-    show::text(b"    W.from_le_bytes b\n");
-    show::text(b"    W.to_le_bytes x\n");
-    show::text(b"    W.from_be_bytes b\n");
-    show::text(b"    W.to_be_bytes x\n");
+fn list_w<W: Write>(out: &mut W) -> io::Result<()> {
+    show::text(out, b"    W.from_le_bytes b\n")?;
+    show::text(out, b"    W.to_le_bytes x\n")?;
+    show::text(out, b"    W.from_be_bytes b\n")?;
+    show::text(out, b"    W.to_be_bytes x\n")
 }
 
-fn list_bytes() {
-    show::text(b"    bytes.len b f t\n");
-    show::text(b"    bytes.is_empty b f t\n");
-    show::text(b"    bytes.get b f t i\n");
-    show::text(b"    bytes.first b f t\n");
-    show::text(b"    bytes.last b f t\n");
-    show::text(b"    bytes.sub_range b f t a e\n");
-    show::text(b"    bytes.split_at b f t m\n");
-    show::text(b"    bytes.split_first b f t\n");
-    show::text(b"    bytes.next_piece b f t n\n");
-    show::text(b"    bytes.starts_with b f t other\n");
-    show::text(b"    bytes.ends_with b f t other\n");
-    show::text(b"    bytes.contains b f t v\n");
-    show::text(b"    bytes.equal b f t other\n");
-    show::text(b"    bytes.set b f t i v\n");
-    show::text(b"    bytes.reverse b f t\n");
-    show::text(b"    bytes.copy_from b f t other\n");
-    show::text(b"    bytes.copy_within b f t at\n");
+fn list_bytes<W: Write>(out: &mut W) -> io::Result<()> {
+    show::text(out, b"    bytes.len b f t\n")?;
+    show::text(out, b"    bytes.is_empty b f t\n")?;
+    show::text(out, b"    bytes.get b f t i\n")?;
+    show::text(out, b"    bytes.first b f t\n")?;
+    show::text(out, b"    bytes.last b f t\n")?;
+    show::text(out, b"    bytes.sub_range b f t a e\n")?;
+    show::text(out, b"    bytes.split_at b f t m\n")?;
+    show::text(out, b"    bytes.split_first b f t\n")?;
+    show::text(out, b"    bytes.next_piece b f t n\n")?;
+    show::text(out, b"    bytes.starts_with b f t other\n")?;
+    show::text(out, b"    bytes.ends_with b f t other\n")?;
+    show::text(out, b"    bytes.contains b f t v\n")?;
+    show::text(out, b"    bytes.equal b f t other\n")?;
+    show::text(out, b"    bytes.set b f t i v\n")?;
+    show::text(out, b"    bytes.reverse b f t\n")?;
+    show::text(out, b"    bytes.copy_from b f t other\n")?;
+    show::text(out, b"    bytes.copy_within b f t at\n")
 }
 
-fn list_text() {
-    show::text(b"    text.scalar_len c\n");
-    show::text(b"    text.is_white_space c\n");
-    show::text(b"    text.write b at c\n");
-    show::text(b"    text.read_first b f t\n");
-    show::text(b"    text.read_last b f t\n");
-    show::text(b"    text.valid b\n");
-    show::text(b"    text.count b\n");
-    show::text(b"    text.is_boundary b i\n");
-    show::text(b"    text.split_at b i\n");
-    show::text(b"    text.is_ascii b\n");
-    show::text(b"    text.valid_up_to b\n");
+fn list_text<W: Write>(out: &mut W) -> io::Result<()> {
+    show::text(out, b"    text.scalar_len c\n")?;
+    show::text(out, b"    text.is_white_space c\n")?;
+    show::text(out, b"    text.write b at c\n")?;
+    show::text(out, b"    text.read_first b f t\n")?;
+    show::text(out, b"    text.read_last b f t\n")?;
+    show::text(out, b"    text.valid b\n")?;
+    show::text(out, b"    text.count b\n")?;
+    show::text(out, b"    text.is_boundary b i\n")?;
+    show::text(out, b"    text.split_at b i\n")?;
+    show::text(out, b"    text.is_ascii b\n")?;
+    show::text(out, b"    text.valid_up_to b\n")
 }

@@ -1,6 +1,8 @@
 // Standard input, line by line, and the answers to standard output.
-use libc::{STDIN_FILENO, STDOUT_FILENO};
+ghost use Rattle.std.specs.Prelude.{◌≤◌, length};
+
 use questions::answers;
+use std::io::{Read, Write};
 use words::places;
 
 // What is known between two reads: how many bytes of a line are held, whether it has more than can be held, how many bytes of answers are still to be
@@ -13,6 +15,11 @@ struct State {
     open: bool,
 }
 
+// Room for a line.
+pub fn one_line() -> [u8; 65536] {
+    [0; 65536]
+}
+
 // Room for answers, twice what a line has: bytes in an answer take no more than its line, and any other answer has three numbers or a word.
 pub fn two_lines() -> [u8; 131072] {
     [0; 131072]
@@ -21,15 +28,21 @@ pub fn two_lines() -> [u8; 131072] {
 // Answers are written out once they take half of their room, so that the other half is left for the next one.
 const HALF: usize = 65536;
 
-pub fn answer_all() {
-    let mut block = io::large_buffer();
-    let mut line = io::large_buffer();
+pub fn answer_all<R: Read, W: Write>(input: &mut R, output: &mut W) {
+    let mut block = one_line();
+    let mut line = one_line();
     let mut out = two_lines();
-    run(&mut block, &mut line, &mut out);
+    run(input, output, &mut block, &mut line, &mut out);
 }
 
 // A proved loop has to end, and nothing says that the input does: the turns are counted down from a number that no run uses up.
-fn run(block: &mut [u8], line: &mut [u8], out: &mut [u8]) {
+fn run<R: Read, W: Write>(
+    input: &mut R,
+    output: &mut W,
+    block: &mut [u8],
+    line: &mut [u8],
+    out: &mut [u8],
+) {
     let mut state = State {
         held: 0,
         long: false,
@@ -38,7 +51,7 @@ fn run(block: &mut [u8], line: &mut [u8], out: &mut [u8]) {
     };
     let mut turns = u64::MAX;
     while turns > 0 {
-        state = turn(block, line, out, state);
+        state = turn(input, output, block, line, out, state);
         if !state.open {
             return;
         }
@@ -47,37 +60,59 @@ fn run(block: &mut [u8], line: &mut [u8], out: &mut [u8]) {
 }
 
 // One read, and the answers to the lines that end in what came. What was answered before is written out first: the read may wait for whoever reads it.
-fn turn(block: &mut [u8], line: &mut [u8], out: &mut [u8], state: State) -> State {
-    let written = flushed(out, state);
+fn turn<R: Read, W: Write>(
+    input: &mut R,
+    output: &mut W,
+    block: &mut [u8],
+    line: &mut [u8],
+    out: &mut [u8],
+    state: State,
+) -> State {
+    let written = flushed(output, out, state);
     if !written.open {
         return written;
     }
-    let got = libc::read(STDIN_FILENO, block);
-    let n = io::count(got, block);
+    let n = got(input, block);
     if n == 0 {
-        return finished(line, out, written);
+        return finished(output, line, out, written);
     }
-    answered(&block[0..n], line, out, written)
+    answered(output, &block[0..n], line, out, written)
+}
+
+// How many bytes one read gave: none at the end, and where it fails.
+fn got<R: Read>(input: &mut R, block: &mut [u8]) -> usize
+    ensures { result ≤ length block.new }
+{
+    match input.read(block) {
+        Ok(n) => n,
+        Err(_) => 0,
+    }
 }
 
 // Answers the last line, if it has no end of its own.
-fn finished(line: &[u8], out: &mut [u8], state: State) -> State {
+fn finished<W: Write>(output: &mut W, line: &[u8], out: &mut [u8], state: State) -> State {
     if (0 < state.held) | state.long {
-        let last = line_answered(line, out, state);
-        return closed(out, last);
+        let last = line_answered(output, line, out, state);
+        return closed(output, out, last);
     }
-    closed(out, state)
+    closed(output, out, state)
 }
 
 // The answers are written out, and nothing is left to do.
-fn closed(out: &[u8], state: State) -> State {
-    let mut last = flushed(out, state);
+fn closed<W: Write>(output: &mut W, out: &[u8], state: State) -> State {
+    let mut last = flushed(output, out, state);
     last.open = false;
     last
 }
 
 // Answers each line that ends in the block, and holds what is left behind the last.
-fn answered(block: &[u8], line: &mut [u8], out: &mut [u8], state: State) -> State {
+fn answered<W: Write>(
+    output: &mut W,
+    block: &[u8],
+    line: &mut [u8],
+    out: &mut [u8],
+    state: State,
+) -> State {
     let mut next = state;
     let mut at = 0;
     while at < block.len() {
@@ -86,7 +121,7 @@ fn answered(block: &[u8], line: &mut [u8], out: &mut [u8], state: State) -> Stat
         if end == block.len() {
             return next;
         }
-        next = line_answered(line, out, next);
+        next = line_answered(output, line, out, next);
         at = end + 1;
     }
     next
@@ -118,7 +153,7 @@ fn gathered(line: &mut [u8], block: &[u8], from: usize, to: usize, state: State)
 }
 
 // The line that is held is answered, and the next one begins.
-fn line_answered(line: &[u8], out: &mut [u8], state: State) -> State {
+fn line_answered<W: Write>(output: &mut W, line: &[u8], out: &mut [u8], state: State) -> State {
     let behind = one_answer(line, out, state);
     let end = answers::line_end(out, behind);
     let next = State {
@@ -130,7 +165,7 @@ fn line_answered(line: &[u8], out: &mut [u8], state: State) -> State {
     if end < HALF {
         return next;
     }
-    flushed(out, next)
+    flushed(output, out, next)
 }
 
 fn one_answer(line: &[u8], out: &mut [u8], state: State) -> usize {
@@ -146,15 +181,15 @@ fn one_answer(line: &[u8], out: &mut [u8], state: State) -> usize {
 }
 
 // The answers are written out; where they cannot be, there is nothing left to do.
-fn flushed(out: &[u8], state: State) -> State {
+fn flushed<W: Write>(output: &mut W, out: &[u8], state: State) -> State {
     let used = state.used;
     let mut next = state;
     if out.len() < used {
         next.open = false;
         return next;
     }
-    let written = io::write_all(STDOUT_FILENO, &out[0..used]);
+    let written = output.write_all(&out[0..used]);
     next.used = 0;
-    next.open = written & state.open;
+    next.open = written.is_ok() & state.open;
     next
 }

@@ -5,10 +5,10 @@ mod arguments;
 mod help;
 mod lines;
 
-fn main() {
-    if os::arg_count() < 2 {
-        lines::answer_all();
+fn main(rt: HostRuntime) {
+    if arguments::is_there(&rt, 1) {
+        arguments::answer(&rt, &mut rt.stdout(), &mut rt.stderr());
     } else {
-        arguments::answer();
+        lines::answer_all(&mut rt.stdin(), &mut rt.stdout());
     }
 }

@@ -5,6 +5,9 @@
 
 ghost use Rattle.std.specs.Prelude.{◌<◌, ◌≤◌};
 
+use std::io;
+use std::io::Write;
+
 // ---- the arguments, as bits
 
 // 2^(w/2)
@@ -94,13 +97,14 @@ const DISTANCES: u64 = 12;
 
 // ---- the answers
 
-fn cell(kind: u8, operation: u8, a: u64, b: u64, c: u64) {
-    show::text(b" ");
+fn cell<W: Write>(out: &mut W, kind: u8, operation: u8, a: u64, b: u64, c: u64) -> io::Result<()> {
+    show::text(out, b" ")?;
     show::answer(
+        out,
         kind,
         operation,
         numbered_integers::run(kind, operation, numbered::three(a, b, c)),
-    );
+    )
 }
 
 // How many values of an argument are tried.
@@ -123,59 +127,80 @@ fn value(kind: u8, operation: u8, place: usize, number: u64) -> u64 {
     }
 }
 
-fn cells(kind: u8, operation: u8, a: u64, b: u64, count: u64) {
+fn cells<W: Write>(
+    out: &mut W,
+    kind: u8,
+    operation: u8,
+    a: u64,
+    b: u64,
+    count: u64,
+) -> io::Result<()> {
     for number in 0..count {
-        cell(kind, operation, a, b, value(kind, operation, 2, number));
+        cell(
+            out,
+            kind,
+            operation,
+            a,
+            b,
+            value(kind, operation, 2, number),
+        )?;
     }
+    Ok(())
 }
 
-fn seconds(kind: u8, operation: u8, a: u64, count: u64) {
+fn seconds<W: Write>(out: &mut W, kind: u8, operation: u8, a: u64, count: u64) -> io::Result<()> {
     let thirds = values(kind, operation, 2);
     for number in 0..count {
         cells(
+            out,
             kind,
             operation,
             a,
             value(kind, operation, 1, number),
             thirds,
-        );
+        )?;
     }
+    Ok(())
 }
 
-fn line(kind: u8, operation: u8, a: u64) {
-    show::title(kind, operation);
-    show::text(b" ");
-    show::number(kind, a);
-    show::text(b":");
-    seconds(kind, operation, a, values(kind, operation, 1));
-    show::text(b"\n");
+fn line<W: Write>(out: &mut W, kind: u8, operation: u8, a: u64) -> io::Result<()> {
+    show::title(out, kind, operation)?;
+    show::text(out, b" ")?;
+    show::number(out, kind, a)?;
+    show::text(out, b":")?;
+    seconds(out, kind, operation, a, values(kind, operation, 1))?;
+    show::text(out, b"\n")
 }
 
-fn lines(kind: u8, operation: u8, count: u64) {
+fn lines<W: Write>(out: &mut W, kind: u8, operation: u8, count: u64) -> io::Result<()> {
     for place in 0..count {
-        line(kind, operation, edge(kind, place));
+        line(out, kind, operation, edge(kind, place))?;
     }
+    Ok(())
 }
 
-fn all_lines(kind: u8, operation: u8) {
+fn all_lines<W: Write>(out: &mut W, kind: u8, operation: u8) -> io::Result<()> {
     if numbered::has(kind, operation) {
-        lines(kind, operation, edges(kind));
+        lines(out, kind, operation, edges(kind))?;
     }
+    Ok(())
 }
 
-fn operations(kind: u8) {
+fn operations<W: Write>(out: &mut W, kind: u8) -> io::Result<()> {
     for operation in 0..numbered::OPERATIONS {
-        all_lines(kind, operation);
+        all_lines(out, kind, operation)?;
     }
+    Ok(())
 }
 
-fn main() {
-    operations(numbered::U16);
-    operations(numbered::U32);
-    operations(numbered::U64);
-    operations(numbered::USIZE);
-    operations(numbered::I16);
-    operations(numbered::I32);
-    operations(numbered::I64);
-    operations(numbered::ISIZE);
+fn main(rt: HostRuntime) -> io::Result<()> {
+    let mut out = rt.stdout();
+    operations(&mut out, numbered::U16)?;
+    operations(&mut out, numbered::U32)?;
+    operations(&mut out, numbered::U64)?;
+    operations(&mut out, numbered::USIZE)?;
+    operations(&mut out, numbered::I16)?;
+    operations(&mut out, numbered::I32)?;
+    operations(&mut out, numbered::I64)?;
+    operations(&mut out, numbered::ISIZE)
 }

@@ -4,18 +4,10 @@
 
 ghost use Rattle.std.specs.Prelude.{◌≡◌, ◌≤◌, ◌<◌};
 
-use libc::STDOUT_FILENO;
+use std::io;
 
-fn text(s: &[u8]) {
-    io::write_all(STDOUT_FILENO, s);
-}
-
-fn line(what: &[u8], tried: u32, wrong: u32) {
-    text(what);
-    io::print_decimal(STDOUT_FILENO, tried as u64);
-    text(b" tried, ");
-    io::print_decimal(STDOUT_FILENO, wrong as u64);
-    text(b" wrong\n");
+fn line(rt: &impl Print, what: &str, tried: u32, wrong: u32) -> io::Result<()> {
+    println!(rt; "{what}: {tried} tried, {wrong} wrong")
 }
 
 fn one_if(test: bool) -> u32
@@ -84,24 +76,24 @@ fn wrong_16(x: u16) -> u32
     a + b + c + d
 }
 
-fn every_8() {
+fn every_8(rt: &impl Print) -> io::Result<()> {
     let mut wrong: u32 = 0;
     let mut x: u32 = 0;
     while x < 256 {
         wrong += wrong_8(x as u8);
         x += 1;
     }
-    line(b"zeros and ones, 8 bits: ", 4 * x, wrong);
+    line(rt, "zeros and ones, 8 bits", 4 * x, wrong)
 }
 
-fn every_16() {
+fn every_16(rt: &impl Print) -> io::Result<()> {
     let mut wrong: u32 = 0;
     let mut x: u32 = 0;
     while x < 65536 {
         wrong += wrong_16(x as u16);
         x += 1;
     }
-    line(b"zeros and ones, 16 bits: ", 4 * x, wrong);
+    line(rt, "zeros and ones, 16 bits", 4 * x, wrong)
 }
 
 // ---- bytes, there and back in both orders
@@ -139,18 +131,18 @@ fn trip_64(x: u64) -> u32
         + one_if(!from_high.ok | (from_high.value != x) | (low[3] != high[4]))
 }
 
-fn trips_16() {
+fn trips_16(rt: &impl Print) -> io::Result<()> {
     let mut wrong: u32 = 0;
     let mut x: u32 = 0;
     while x < 65536 {
         wrong += trip_16(x as u16);
         x += 1;
     }
-    line(b"there and back, 16 bits: ", 2 * x, wrong);
+    line(rt, "there and back, 16 bits", 2 * x, wrong)
 }
 
 // A single one, ones at the low end, and ones at the high end.
-fn trips_32() {
+fn trips_32(rt: &impl Print) -> io::Result<()> {
     let mut wrong: u32 = 0;
     let mut k: u32 = 0;
     while k < 32 {
@@ -158,10 +150,10 @@ fn trips_32() {
         wrong += trip_32(1 << k) + trip_32(low) + trip_32(!low);
         k += 1;
     }
-    line(b"there and back, edges of 32 bits: ", 6 * k, wrong);
+    line(rt, "there and back, edges of 32 bits", 6 * k, wrong)
 }
 
-fn trips_64() {
+fn trips_64(rt: &impl Print) -> io::Result<()> {
     let mut wrong: u32 = 0;
     let mut k: u32 = 0;
     while k < 64 {
@@ -169,7 +161,7 @@ fn trips_64() {
         wrong += trip_64(1 << k) + trip_64(low) + trip_64(!low);
         k += 1;
     }
-    line(b"there and back, edges of 64 bits: ", 6 * k, wrong);
+    line(rt, "there and back, edges of 64 bits", 6 * k, wrong)
 }
 
 // What a byte of 24, each of them 170, should be once eight bytes are written from a place on, or refused.
@@ -200,21 +192,21 @@ fn written_at(at: usize) -> u32
     wrong
 }
 
-fn writes() {
+fn writes(rt: &impl Print) -> io::Result<()> {
     let mut wrong: u32 = 0;
     let mut at: usize = 0;
     while at < 32 {
         wrong += written_at(at);
         at += 1;
     }
-    line(b"written at a place, bytes and answers: ", 800, wrong);
+    line(rt, "written at a place, bytes and answers", 800, wrong)
 }
 
-fn main() {
-    every_8();
-    every_16();
-    trips_16();
-    trips_32();
-    trips_64();
-    writes();
+fn main(rt: HostRuntime) -> io::Result<()> {
+    every_8(&rt)?;
+    every_16(&rt)?;
+    trips_16(&rt)?;
+    trips_32(&rt)?;
+    trips_64(&rt)?;
+    writes(&rt)
 }

@@ -7,6 +7,9 @@ mod whole;
 
 ghost use Rattle.std.specs.Prelude.{◌≤◌};
 
+use std::io;
+use std::io::Write;
+
 // 1 where the library and the rule agree, 0 where not.
 fn agree(kind: u8, operation: u8, a: u64, b: u64, c: u64) -> u64
     ensures { result ≤ 1 }
@@ -64,22 +67,25 @@ fn all(kind: u8, operation: u8) -> u64
     count
 }
 
-fn line(kind: u8, operation: u8) {
+fn line<W: Write>(out: &mut W, kind: u8, operation: u8) -> io::Result<()> {
     if numbered::has(kind, operation) {
-        show::title(kind, operation);
-        show::text(b" ");
-        show::natural(all(kind, operation));
-        show::text(b"\n");
+        show::title(out, kind, operation)?;
+        show::text(out, b" ")?;
+        show::natural(out, all(kind, operation))?;
+        show::text(out, b"\n")?;
     }
+    Ok(())
 }
 
-fn operations(kind: u8) {
+fn operations<W: Write>(out: &mut W, kind: u8) -> io::Result<()> {
     for operation in 0..numbered::OPERATIONS {
-        line(kind, operation);
+        line(out, kind, operation)?;
     }
+    Ok(())
 }
 
-fn main() {
-    operations(numbered::U8);
-    operations(numbered::I8);
+fn main(rt: HostRuntime) -> io::Result<()> {
+    let mut out = rt.stdout();
+    operations(&mut out, numbered::U8)?;
+    operations(&mut out, numbered::I8)
 }

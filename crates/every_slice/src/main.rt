@@ -5,7 +5,7 @@
 mod held;
 mod rule;
 
-use libc::STDOUT_FILENO;
+use std::io;
 
 fn count(right: bool, wrong: u64) -> u64 {
     if right {
@@ -180,17 +180,12 @@ fn every_long() -> u64 {
 
 // ---- what came of it
 
-fn report(name: &[u8], cases: u64, wrong: u64) {
-    io::write_all(STDOUT_FILENO, name);
-    io::write_all(STDOUT_FILENO, b": ");
-    io::print_decimal(STDOUT_FILENO, cases);
-    io::write_all(STDOUT_FILENO, b" cases, ");
-    io::print_decimal(STDOUT_FILENO, wrong);
-    io::write_all(STDOUT_FILENO, b" wrong\n");
+fn report(rt: &impl Print, name: &str, cases: u64, wrong: u64) -> io::Result<()> {
+    println!(rt; "{name}: {cases} cases, {wrong} wrong")
 }
 
-fn main() {
-    report(b"one short slice", 524880, every_one());
-    report(b"two short slices", 230400, every_two());
-    report(b"long slices", 8112, every_long());
+fn main(rt: HostRuntime) -> io::Result<()> {
+    report(&rt, "one short slice", 524880, every_one())?;
+    report(&rt, "two short slices", 230400, every_two())?;
+    report(&rt, "long slices", 8112, every_long())
 }

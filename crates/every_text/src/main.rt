@@ -7,13 +7,10 @@ mod rule;
 
 ghost use Rattle.std.specs.Prelude.{◌≤◌, ◌<◌};
 
-use libc::STDOUT_FILENO;
+use std::io;
 
-fn line(words: &[u8], n: u64) {
-    io::write_all(STDOUT_FILENO, words);
-    io::write_all(STDOUT_FILENO, b": ");
-    io::print_decimal(STDOUT_FILENO, n);
-    io::write_all(STDOUT_FILENO, b"\n");
+fn line(rt: &impl Print, words: &str, n: u64) -> io::Result<()> {
+    println!(rt; "{words}: {n}")
 }
 
 fn one_if(right: bool) -> u64
@@ -126,18 +123,20 @@ fn misplaced_or_cut() -> u64 {
         + refused(b"\xf0\x9f\x98")
 }
 
-fn worked() {
+fn worked(rt: &impl Print) -> io::Result<()> {
     line(
-        b"worked values read, of 9",
+        rt,
+        "worked values read, of 9",
         one_or_two_bytes() + three_bytes() + four_bytes(),
-    );
-    line(b"refused as longer than needed, of 4", longer());
-    line(b"refused as surrogates, of 2", surrogates());
-    line(b"refused as too large, of 2", too_large());
+    )?;
+    line(rt, "refused as longer than needed, of 4", longer())?;
+    line(rt, "refused as surrogates, of 2", surrogates())?;
+    line(rt, "refused as too large, of 2", too_large())?;
     line(
-        b"refused as out of place or cut off, of 5",
+        rt,
+        "refused as out of place or cut off, of 5",
         misplaced_or_cut(),
-    );
+    )
 }
 
 // ---- every string of up to three bytes, and every string of four edge bytes
@@ -334,69 +333,86 @@ fn lengths(s: &[u8], three: bool) -> u64 {
     count
 }
 
-fn among_ascii() {
+fn among_ascii(rt: &impl Print) -> io::Result<()> {
     let mut s = [0x61u8; 200];
     line(
-        b"places of 80 among ASCII, of 200",
+        rt,
+        "places of 80 among ASCII, of 200",
         wrongs(&mut s, 0x80, false),
-    );
+    )?;
     line(
-        b"places of c2 among ASCII, of 200",
+        rt,
+        "places of c2 among ASCII, of 200",
         wrongs(&mut s, 0xc2, false),
-    );
+    )?;
     line(
-        b"places of ff among ASCII, of 200",
+        rt,
+        "places of ff among ASCII, of 200",
         wrongs(&mut s, 0xff, false),
-    );
-    line(b"lengths of ASCII, of 200", lengths(&s, false));
+    )?;
+    line(rt, "lengths of ASCII, of 200", lengths(&s, false))
 }
 
-fn among_forms_of_three() {
+fn among_forms_of_three(rt: &impl Print) -> io::Result<()> {
     let mut s = [0u8; 200];
     fill(&mut s, 0xe2, 0x82, 0xac);
     line(
-        b"places of c0 among forms of three bytes, of 200",
+        rt,
+        "places of c0 among forms of three bytes, of 200",
         wrongs(&mut s, 0xc0, true),
-    );
+    )?;
     line(
-        b"places of ff among forms of three bytes, of 200",
+        rt,
+        "places of ff among forms of three bytes, of 200",
         wrongs(&mut s, 0xff, true),
-    );
+    )?;
     line(
-        b"lengths of forms of three bytes, of 200",
+        rt,
+        "lengths of forms of three bytes, of 200",
         lengths(&s, true),
-    );
+    )
 }
 
-fn every_string() {
-    line(b"strings of no byte, of 1", agree(b""));
-    line(b"strings of one byte, of 256", strings(1, 256));
-    line(b"strings of two bytes, of 65536", strings(2, 65536));
-    line(b"strings of three bytes, of 16777216", strings(3, 16777216));
-    line(b"strings of four edge bytes, of 331776", strings(4, 331776));
-}
-
-fn every_number() {
+fn every_string(rt: &impl Print) -> io::Result<()> {
+    line(rt, "strings of no byte, of 1", agree(b""))?;
+    line(rt, "strings of one byte, of 256", strings(1, 256))?;
+    line(rt, "strings of two bytes, of 65536", strings(2, 65536))?;
     line(
-        b"scalar values below the surrogates, of 55296",
+        rt,
+        "strings of three bytes, of 16777216",
+        strings(3, 16777216),
+    )?;
+    line(
+        rt,
+        "strings of four edge bytes, of 331776",
+        strings(4, 331776),
+    )
+}
+
+fn every_number(rt: &impl Print) -> io::Result<()> {
+    line(
+        rt,
+        "scalar values below the surrogates, of 55296",
         rounds(0, 0xd800),
-    );
-    line(b"surrogates refused, of 2048", rounds(0xd800, 0xe000));
+    )?;
+    line(rt, "surrogates refused, of 2048", rounds(0xd800, 0xe000))?;
     line(
-        b"scalar values above them, of 1056768",
+        rt,
+        "scalar values above them, of 1056768",
         rounds(0xe000, 0x110000),
-    );
+    )?;
     line(
-        b"larger numbers refused, of 4096",
+        rt,
+        "larger numbers refused, of 4096",
         rounds(0x110000, 0x111000),
-    );
-    line(b"white space among all of them, of 25", white_spaces());
+    )?;
+    line(rt, "white space among all of them, of 25", white_spaces())
 }
 
-fn main() {
-    worked();
-    every_string();
-    every_number();
-    among_ascii();
-    among_forms_of_three();
+fn main(rt: HostRuntime) -> io::Result<()> {
+    worked(&rt)?;
+    every_string(&rt)?;
+    every_number(&rt)?;
+    among_ascii(&rt)?;
+    among_forms_of_three(&rt)
 }

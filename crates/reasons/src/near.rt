@@ -2,6 +2,8 @@
 ghost use Rattle.std.specs.Prelude.{◌≤◌, length};
 
 use crate::said;
+use std::io;
+use std::io::Write;
 
 // No name is longer.
 const MOST: usize = 64;
@@ -11,30 +13,30 @@ const GROUPS: u8 = numbered::KINDS + 2;
 // How near a name is, times this, and its number, counted down so that of two names that are as near the first is the higher.
 const NUMBERS: u64 = 65536;
 
-pub fn tell(asked: &[u8]) {
+pub fn tell<W: Write>(out: &mut W, asked: &[u8]) -> io::Result<()> {
     let first = nearest(asked, u64::MAX);
     if first == 0 {
-        said::text(b"; --help lists the names\n");
-        return;
+        return said::text(out, b"; --help lists the names\n");
     }
-    said::text(b"; near it: ");
-    named(first);
+    said::text(out, b"; near it: ")?;
+    named(out, first)?;
     let second = nearest(asked, first);
-    also(second);
-    also(nearest(asked, second));
-    said::text(b"\n");
+    also(out, second)?;
+    also(out, nearest(asked, second))?;
+    said::text(out, b"\n")
 }
 
-fn also(rank: u64) {
+fn also<W: Write>(out: &mut W, rank: u64) -> io::Result<()> {
     if 0 < rank {
-        said::text(b", ");
-        named(rank);
+        said::text(out, b", ")?;
+        named(out, rank)?;
     }
+    Ok(())
 }
 
-fn named(rank: u64) {
+fn named<W: Write>(out: &mut W, rank: u64) -> io::Result<()> {
     let number = NUMBERS - 1 - rank % NUMBERS;
-    said::name((number / 256) as u8, (number % 256) as u8);
+    said::name(out, (number / 256) as u8, (number % 256) as u8)
 }
 
 // The highest rank below one that was found before; 0 where no name is left that is near.

@@ -1,84 +1,84 @@
-// How reasons are written: to standard error.
-use libc::STDERR_FILENO;
+// How reasons are written.
+use std::io;
+use std::io::Write;
 use words::list::Place;
 
 // No more of a word is shown.
 const MOST: usize = 60;
 
-pub fn text(words: &[u8]) {
-    io::write_all(STDERR_FILENO, words);
+pub fn text<W: Write>(out: &mut W, words: &[u8]) -> io::Result<()> {
+    out.write_all(words)
 }
 
-pub fn begin() {
-    text(b"ask: ");
+pub fn begin<W: Write>(out: &mut W) -> io::Result<()> {
+    text(out, b"ask: ")
 }
 
 // A word of the question; of a long one its beginning.
-pub fn shown(word: &[u8]) {
+pub fn shown<W: Write>(out: &mut W, word: &[u8]) -> io::Result<()> {
     if word.len() == 0 {
-        text(b"''");
+        text(out, b"''")
     } else if word.len() <= MOST {
-        text(word);
+        text(out, word)
     } else {
-        text(&word[0..MOST]);
-        text(b"..");
+        text(out, &word[0..MOST])?;
+        text(out, b"..")
     }
 }
 
 // A word of a list by its place.
-pub fn word(list: &[u8], place: Place) {
+pub fn word<W: Write>(out: &mut W, list: &[u8], place: Place) -> io::Result<()> {
     let from = place.from;
     let to = place.to;
     if to < from {
-        return;
+        return Ok(());
     }
     if list.len() < to {
-        return;
+        return Ok(());
     }
-    text(&list[from..to]);
+    text(out, &list[from..to])
 }
 
-pub fn name(kind: u8, operation: u8) {
-    group(kind);
-    text(b".");
+pub fn name<W: Write>(out: &mut W, kind: u8, operation: u8) -> io::Result<()> {
+    group(out, kind)?;
+    text(out, b".")?;
     word(
+        out,
         &numbered::NAMES,
         words::list::word(&numbered::NAMES, operation),
-    );
+    )
 }
 
-fn group(kind: u8) {
+fn group<W: Write>(out: &mut W, kind: u8) -> io::Result<()> {
     word(
+        out,
         &numbered::GROUPS,
         words::list::word(&numbered::GROUPS, kind),
-    );
+    )
 }
 
 // What an argument is of.
-pub fn kind(kind: u8) {
+pub fn kind<W: Write>(out: &mut W, kind: u8) -> io::Result<()> {
     match kind {
-        numbered::SLICE => text(b"bytes"),
-        numbered::TRUTH => text(b"truth"),
-        _ => group(kind),
+        numbered::SLICE => text(out, b"bytes"),
+        numbered::TRUTH => text(out, b"truth"),
+        _ => group(out, kind),
     }
 }
 
 // From the smallest to the largest of a kind.
-pub fn range(kind: u8) {
+pub fn range<W: Write>(out: &mut W, kind: u8) -> io::Result<()> {
     if kind == numbered::TRUTH {
-        text(b"true or false\n");
+        text(out, b"true or false\n")
     } else if numbered::is_signed(kind) {
         let n = numbered::smallest(kind);
-        text(b"-");
-        up_to(n, n - 1);
+        text(out, b"-")?;
+        up_to(out, n, n - 1)
     } else {
-        up_to(0, numbered::ones(kind));
+        up_to(out, 0, numbered::ones(kind))
     }
 }
 
-fn up_to(first: u64, last: u64) {
-    io::print_decimal(STDERR_FILENO, first);
-    text(b" to ");
-    io::print_decimal(STDERR_FILENO, last);
-    text(b"\n");
+fn up_to<W: Write>(out: &mut W, first: u64, last: u64) -> io::Result<()> {
+    writeln!(out, "{first} to {last}")
 }

@@ -1,5 +1,7 @@
 // What an operation takes, as `ask --help` names it and by its kinds (written by generate/ from the table of operations).
 use crate::said;
+use std::io;
+use std::io::Write;
 
 // The arguments of each operation, in the order of their numbers.
 pub const SHOWN: [u8; 338] =
@@ -9,53 +11,55 @@ pub const SHOWN: [u8; 338] =
     b,f,t,other b,f,t,at c c b,at,c b,f,t b,f,t b b b,i b,i b b b,f,t b,at,x";
 
 // `u8.wrapping_shl takes x d: u8 u32`
-pub fn tell(kind: u8, operation: u8) {
-    said::begin();
-    said::name(kind, operation);
-    said::text(b" takes ");
-    names(operation);
-    said::text(b":");
-    argument(numbered::takes(kind, operation, 0));
-    argument(numbered::takes(kind, operation, 1));
-    argument(numbered::takes(kind, operation, 2));
-    argument(numbered::takes(kind, operation, 3));
-    argument(numbered::takes(kind, operation, 4));
-    said::text(b"\n");
+pub fn tell<W: Write>(out: &mut W, kind: u8, operation: u8) -> io::Result<()> {
+    said::begin(out)?;
+    said::name(out, kind, operation)?;
+    said::text(out, b" takes ")?;
+    names(out, operation)?;
+    said::text(out, b":")?;
+    argument(out, numbered::takes(kind, operation, 0))?;
+    argument(out, numbered::takes(kind, operation, 1))?;
+    argument(out, numbered::takes(kind, operation, 2))?;
+    argument(out, numbered::takes(kind, operation, 3))?;
+    argument(out, numbered::takes(kind, operation, 4))?;
+    said::text(out, b"\n")
 }
 
-fn argument(kind: u8) {
+fn argument<W: Write>(out: &mut W, kind: u8) -> io::Result<()> {
     if kind != numbered::NOTHING {
-        said::text(b" ");
-        said::kind(kind);
+        said::text(out, b" ")?;
+        said::kind(out, kind)?;
     }
+    Ok(())
 }
 
-fn names(operation: u8) {
+fn names<W: Write>(out: &mut W, operation: u8) -> io::Result<()> {
     let list = SHOWN;
     let place = words::list::word(&list, operation);
     let from = place.from;
     let to = place.to;
     if to < from {
-        return;
+        return Ok(());
     }
     if list.len() < to {
-        return;
+        return Ok(());
     }
-    spaced(&list[from..to]);
+    spaced(out, &list[from..to])
 }
 
 // With a space for each comma.
-fn spaced(names: &[u8]) {
+fn spaced<W: Write>(out: &mut W, names: &[u8]) -> io::Result<()> {
     let mut i = 0;
     while i < names.len() {
-        one(names[i]);
+        one(out, names[i])?;
         i += 1;
     }
+    Ok(())
 }
 
-fn one(b: u8) {
+fn one<W: Write>(out: &mut W, b: u8) -> io::Result<()> {
     match b {
-        b',' => said::text(b" "),
-        _ => said::text(&[b]),
+        b',' => said::text(out, b" "),
+        _ => said::text(out, &[b]),
     }
 }

@@ -1,113 +1,114 @@
-// How the programs write a kind, an operation, a number and an answer.
+// How the programs write a kind, an operation, a number and an answer. Each function ends at the first write that fails, with its error.
 #![tactic(auto)]
 
-use libc::STDOUT_FILENO;
 use numbered::Answer;
+use std::io;
+use std::io::Write;
 
-pub fn text(words: &[u8]) {
-    io::write_all(STDOUT_FILENO, words);
+pub fn text<W: Write>(out: &mut W, words: &[u8]) -> io::Result<()> {
+    out.write_all(words)
 }
 
-pub fn natural(n: u64) {
-    io::print_decimal(STDOUT_FILENO, n);
+pub fn natural<W: Write>(out: &mut W, n: u64) -> io::Result<()> {
+    write!(out, "{n}")
 }
 
-pub fn kind(k: u8) {
+pub fn kind<W: Write>(out: &mut W, k: u8) -> io::Result<()> {
     if numbered::is_signed(k) {
-        text(b"i");
+        text(out, b"i")?;
     } else {
-        text(b"u");
+        text(out, b"u")?;
     }
-    width(k);
+    width(out, k)
 }
 
-fn width(k: u8) {
+fn width<W: Write>(out: &mut W, k: u8) -> io::Result<()> {
     match k {
-        numbered::USIZE | numbered::ISIZE => text(b"size"),
-        _ => natural(numbered::width(k)),
+        numbered::USIZE | numbered::ISIZE => text(out, b"size"),
+        _ => natural(out, numbered::width(k)),
     }
 }
 
-pub fn operation(o: u8) {
+pub fn operation<W: Write>(out: &mut W, o: u8) -> io::Result<()> {
     let word = words::list::word(&numbered::NAMES, o);
-    named(&numbered::NAMES, word.from, word.to);
+    named(out, &numbered::NAMES, word.from, word.to)
 }
 
-fn named(list: &[u8], from: usize, to: usize) {
+fn named<W: Write>(out: &mut W, list: &[u8], from: usize, to: usize) -> io::Result<()> {
     if to < from {
-        return;
+        return Ok(());
     }
     if list.len() < to {
-        return;
+        return Ok(());
     }
-    text(&list[from..to]);
+    text(out, &list[from..to])
 }
 
 // `u8.wrapping_add`
-pub fn title(k: u8, o: u8) {
-    kind(k);
-    text(b".");
-    operation(o);
+pub fn title<W: Write>(out: &mut W, k: u8, o: u8) -> io::Result<()> {
+    kind(out, k)?;
+    text(out, b".")?;
+    operation(out, o)
 }
 
 // The number of a kind that has these bits.
-pub fn number(k: u8, bits: u64) {
+pub fn number<W: Write>(out: &mut W, k: u8, bits: u64) -> io::Result<()> {
     if numbered::is_signed(k) && numbered::smallest(k) <= bits {
-        text(b"-");
-        natural(numbered::minus(k, bits));
+        text(out, b"-")?;
+        natural(out, numbered::minus(k, bits))
     } else {
-        natural(bits);
+        natural(out, bits)
     }
 }
 
 // A refusal has the value 0; any other value of one is shown.
-pub fn answer(k: u8, o: u8, a: Answer) {
+pub fn answer<W: Write>(out: &mut W, k: u8, o: u8, a: Answer) -> io::Result<()> {
     if !a.ok {
-        text(b"refused");
+        text(out, b"refused")?;
     }
     if !a.ok & is_zero(a) {
-        return;
+        return Ok(());
     }
     if !a.ok {
-        text(b" with ");
+        text(out, b" with ")?;
     }
-    value(numbered::says(k, o, 0), a.first);
-    next(numbered::says(k, o, 1), a.second);
-    next(numbered::says(k, o, 2), a.third);
-    next(numbered::says(k, o, 3), a.fourth);
+    value(out, numbered::says(k, o, 0), a.first)?;
+    next(out, numbered::says(k, o, 1), a.second)?;
+    next(out, numbered::says(k, o, 2), a.third)?;
+    next(out, numbered::says(k, o, 3), a.fourth)
 }
 
 fn is_zero(a: Answer) -> bool {
     (a.first == 0) & (a.first_high == 0) & (a.second == 0) & (a.third == 0) & (a.fourth == 0)
 }
 
-fn next(kind: u8, bits: u64) {
+fn next<W: Write>(out: &mut W, kind: u8, bits: u64) -> io::Result<()> {
     if kind == numbered::NOTHING {
-        return;
+        return Ok(());
     }
-    text(b" ");
-    value(kind, bits);
+    text(out, b" ")?;
+    value(out, kind, bits)
 }
 
-fn value(kind: u8, bits: u64) {
+fn value<W: Write>(out: &mut W, kind: u8, bits: u64) -> io::Result<()> {
     match kind {
-        numbered::TRUTH => yes_or_no(bits),
-        numbered::ORDER => order(bits),
-        _ => number(kind, bits),
+        numbered::TRUTH => yes_or_no(out, bits),
+        numbered::ORDER => order(out, bits),
+        _ => number(out, kind, bits),
     }
 }
 
-fn yes_or_no(bits: u64) {
+fn yes_or_no<W: Write>(out: &mut W, bits: u64) -> io::Result<()> {
     match bits {
-        0 => text(b"false"),
-        _ => text(b"true"),
+        0 => text(out, b"false"),
+        _ => text(out, b"true"),
     }
 }
 
-fn order(bits: u64) {
+fn order<W: Write>(out: &mut W, bits: u64) -> io::Result<()> {
     match bits {
-        numbered::LESS => text(b"less"),
-        numbered::EQUAL => text(b"equal"),
-        _ => text(b"greater"),
+        numbered::LESS => text(out, b"less"),
+        numbered::EQUAL => text(out, b"equal"),
+        _ => text(out, b"greater"),
     }
 }

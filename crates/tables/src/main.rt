@@ -4,7 +4,10 @@
 mod digits;
 mod integers;
 
-fn main() {
-    integers::lines();
-    digits::lines();
+use std::io;
+
+fn main(rt: HostRuntime) -> io::Result<()> {
+    let mut out = rt.stdout();
+    integers::lines(&mut out)?;
+    digits::lines(&mut out)
 }

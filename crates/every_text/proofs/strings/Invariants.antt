@@ -1,0 +1,8 @@
+use Prim.Native.Nat.{◌≤◌, ◌-◌}
+use Rattle.every_text.proofs.strings.Given as goal
+
+abbrev pub invariant-loop-n : goal.invariant-loop-n
+invariant-loop-n l = (l.count ≤ l.n) × (l.n ≤ l.total)
+
+abbrev pub decreases-loop-n : goal.decreases-loop-n
+decreases-loop-n l = l.total - l.n
