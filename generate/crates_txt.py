@@ -31,7 +31,7 @@ def line(listed, found, order):
 
 def files(made):
     stored = read(PATH)
-    order = LINE.findall(stored) + ["io", "libc", "os"]
+    order = LINE.findall(stored)
     answered = {export.symbol: export.answer.crate for export in exports() if isinstance(export.answer, Struct)}
     texts = {}
     for path, text in made.items():

@@ -8,6 +8,7 @@ from numbering import asked, rows
 from templates import CRATES, filled_file
 
 LINES = 20  # of one function
+PRINTS = "fn %s<W: Write>(out: &mut W) -> io::Result<()>"
 LISTED = {"B": ["T", "S"], "b": ["bytes"], "t": ["text"]}
 
 
@@ -23,6 +24,11 @@ def lines(group):
             yield "    %s.%s %s" % (group, row.name, " ".join(shown(row.exports[0])))
 
 
+def in_turn(calls):
+    """Calls that may fail, one after another: the last one's answer is the answer."""
+    return "".join("    %s?;\n" % call for call in calls[:-1]) + "    %s\n" % calls[-1]
+
+
 def lists(groups):
     """Functions that print the lines of the groups: their calls, and their text."""
     calls, texts = [], []
@@ -30,15 +36,16 @@ def lists(groups):
         found = list(lines(group))
         for start in range(0, len(found), LINES):
             name = "list_%s%s" % (group.lower(), "" if not start else "_%d" % (start // LINES + 1))
-            calls.append("    %s();\n" % name)
-            texts.append(function("fn %s()" % name, "".join('    show::text(b"%s\\n");\n' % line for line in found[start:start + LINES])))
-    return "".join(calls), texts
+            calls.append("%s(out)" % name)
+            texts.append(function(PRINTS % name, in_turn(['show::text(out, b"%s\\n")' % line for line in found[start:start + LINES]])))
+    return calls, texts
 
 
 def files():
     calls_of_integers, integers = lists(["T", "S", "U", "W"])
     calls_of_bytes, others = lists(["bytes", "text"])
-    text = filled_file("ask/help.rt.in", CALLS_OF_INTEGERS=calls_of_integers, CALLS_OF_BYTES=calls_of_bytes, LISTS="\n".join(integers + others))
+    calls = in_turn(["how_to_ask(out)", "legend_of_integers(out)"] + calls_of_integers + ["legend_of_bytes(out)"] + calls_of_bytes)
+    text = filled_file("ask/help.rt.in", CALLS=calls, LISTS="\n".join(integers + others))
     yield os.path.join(CRATES, "ask", "src", "help.rt"), text
     yield os.path.join(os.path.dirname(CRATES), "docs", "ask_help.txt"), printed(text)
     names = table("SHOWN", " ".join(",".join(shown(row.exports[0])) for row in rows()), "The arguments of each operation, in the order of their numbers.")
@@ -47,6 +54,6 @@ def files():
 
 def printed(code):
     """What help.rt prints: the texts of its functions, in the order in which `print` calls them."""
-    bodies = dict(re.findall(r"^(?:pub )?fn (\w+)\(\) \{\n(.*?)^\}", code, re.M | re.S))
-    texts = [text for name in re.findall(r"(\w+)\(\);", bodies["print"]) for text in re.findall(r'b"((?:[^"\\]|\\.)*)"', bodies[name])]
+    bodies = dict(re.findall(r"^(?:pub )?%s \{\n(.*?)^\}" % (re.escape(PRINTS) % r"(\w+)"), code, re.M | re.S))
+    texts = [text for name in re.findall(r"(\w+)\(out\)", bodies["print"]) for text in re.findall(r'b"((?:[^"\\]|\\.)*)"', bodies[name])]
     return "".join(texts).replace("\\n", "\n")
