@@ -4,83 +4,47 @@
 ghost use Rattle.std.specs.Prelude.{◌≡◌, not};
 ghost use Rattle.theory_whole.specs.Order.{is_less, is_equal, is_greater, numbered};
 
-use theory_whole::Ordering;
-
-// Some ordering, by its number, or none: what comparing two integers answers is always some.
-#[repr(C)]
-#[derive(Clone, Copy)]
-pub struct PartialOrdering {
-    pub ok: bool,
-    pub value: i8,
-}
+use std::cmp::Ordering;
 
 pub fn is_eq(o: Ordering) -> bool
     ensures { result ≡ is_equal o }
 {
-    match o {
-        Ordering::Less => false,
-        Ordering::Equal => true,
-        Ordering::Greater => false,
-    }
+    o == Ordering::Equal
 }
 
 pub fn is_ne(o: Ordering) -> bool
     ensures { result ≡ not (is_equal o) }
 {
-    match o {
-        Ordering::Less => true,
-        Ordering::Equal => false,
-        Ordering::Greater => true,
-    }
+    o != Ordering::Equal
 }
 
 pub fn is_lt(o: Ordering) -> bool
     ensures { result ≡ is_less o }
 {
-    match o {
-        Ordering::Less => true,
-        Ordering::Equal => false,
-        Ordering::Greater => false,
-    }
+    o == Ordering::Less
 }
 
 pub fn is_le(o: Ordering) -> bool
     ensures { result ≡ not (is_greater o) }
 {
-    match o {
-        Ordering::Less => true,
-        Ordering::Equal => true,
-        Ordering::Greater => false,
-    }
+    o != Ordering::Greater
 }
 
 pub fn is_gt(o: Ordering) -> bool
     ensures { result ≡ is_greater o }
 {
-    match o {
-        Ordering::Less => false,
-        Ordering::Equal => false,
-        Ordering::Greater => true,
-    }
+    o == Ordering::Greater
 }
 
 pub fn is_ge(o: Ordering) -> bool
     ensures { result ≡ not (is_less o) }
 {
-    match o {
-        Ordering::Less => false,
-        Ordering::Equal => true,
-        Ordering::Greater => true,
-    }
+    o != Ordering::Less
 }
 
 // -1, 0 or 1, as Rust numbers the three.
 pub fn number(o: Ordering) -> i8
     ensures { result ≡ numbered o }
 {
-    match o {
-        Ordering::Less => -1,
-        Ordering::Equal => 0,
-        Ordering::Greater => 1,
-    }
+    o as i8
 }

@@ -1,3 +1,4 @@
 pub mod Says
 pub mod Tests
 pub mod Answer
+pub mod Flag

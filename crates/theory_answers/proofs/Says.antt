@@ -9,6 +9,13 @@ says_true {b} {P} s e = rw e at s
 pub says_false : {b : Bool} {P : Type 0} → Says b P → b ≡ false → P → ⊥
 says_false {b} {P} s e = rw e at s
 
+-- the same of a test that has been made
+pub it_says : {b : Bool} {P : Type 0} → Says b P → true ≡ b → P
+it_says {b} {P} s e = rw (← e) at s
+
+pub it_denies : {b : Bool} {P : Type 0} → Says b P → false ≡ b → P → ⊥
+it_denies {b} {P} s e = rw (← e) at s
+
 pub true_where : (b : Bool) {P : Type 0} → Says b P → P → b ≡ true
 true_where true s p = refl
 true_where false s p = absurd (s p)

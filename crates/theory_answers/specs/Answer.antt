@@ -1,14 +1,10 @@
--- A whole number, or refused: what an operation that may refuse says, and how a function gives it.
-use Rattle.std.specs.Prelude.{ℤ, pos, Bool, true, false, cond, ◌≡◌}
+-- A whole number, or none: what an operation that may refuse says; and how a flag with a value says it, as C has it.
+use Rattle.std.specs.Prelude.{ℤ, pos, Bool, true, false, cond, ◌≡◌, Option, Some, None}
 
-pub data Answer : Type 0 where
-  refused : Answer
-  answered : ℤ → Answer
+unfoldable pub only_if : Bool → Option ℤ → Option ℤ
+only_if holds answer = cond holds answer None
 
-unfoldable pub only_if : Bool → Answer → Answer
-only_if holds answer = cond holds answer refused
-
--- `ok` and `v` are how a function gives an answer: a refusal has the value 0
-abbrev pub Answers : Bool → ℤ → Answer → Type 0
-Answers ok v refused = (ok ≡ false) × (v ≡ pos 0)
-Answers ok v (answered z) = (ok ≡ true) × (v ≡ z)
+-- a refusal has the value 0
+abbrev pub Answers : Bool → ℤ → Option ℤ → Type 0
+Answers ok v None = (ok ≡ false) × (v ≡ pos 0)
+Answers ok v (Some z) = (ok ≡ true) × (v ≡ z)

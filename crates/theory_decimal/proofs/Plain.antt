@@ -9,7 +9,7 @@ use native.Mathlib.Omega.{arith}
 use borrow.Author.Tests.{ne_eqb}
 use lib.ListN.{length, get_or, length-map}
 use lib.IntN.{ℤ, pos, negsuc, neg_ℤ}
-use Rattle.theory_answers.specs.Answer.{Answer, refused, answered}
+use Rattle.std.specs.Prelude.{Option, Some, None}
 use Rattle.theory_whole.proofs.Cases.{both_are}
 use Rattle.theory_answers.proofs.Answer.{only_if_so}
 use Rattle.theory_digits.proofs.High.{value_high_below, value_high_push_highest, digits_high_of_value_high}
@@ -22,10 +22,10 @@ use Rattle.theory_decimal.proofs.Figures.{length_figures, figures_are, figures_m
 
 -- ---- what figures say
 
-pub figures_say : (text : List ℕ) → 0 < length text → all_figures text ≡ true → saying_natural text ≡ answered (pos (meant text))
+pub figures_say : (text : List ℕ) → 0 < length text → all_figures text ≡ true → saying_natural text ≡ Some (pos (meant text))
 unfolding saying_natural
 figures_say [] h e = absurd (omega arith)
-figures_say (c ∷ text) h e = only_if_so (all_figures (c ∷ text)) (answered (pos (meant (c ∷ text)))) e
+figures_say (c ∷ text) h e = only_if_so (all_figures (c ∷ text)) (Some (pos (meant (c ∷ text)))) e
 
 pub figures_have_no_sign : (text : List ℕ) → all_figures text ≡ true → saying_whole text ≡ saying_natural text
 unfolding saying_whole saying_natural all_figures
@@ -52,10 +52,10 @@ natural_figures n = figures_are (places 10 n) n
 natural_some : (n : ℕ) → 0 < length (natural n)
 natural_some n = let p : 1 < 10 = omega arith in omega (arith, length_natural n, places_some 10 p n)
 
-pub natural_said : (n : ℕ) → saying_natural (natural n) ≡ answered (pos n)
-natural_said n = figures_say (natural n) (natural_some n) (natural_figures n) ∙ ap (λ (m : ℕ). answered (pos m)) (natural_means n)
+pub natural_said : (n : ℕ) → saying_natural (natural n) ≡ Some (pos n)
+natural_said n = figures_say (natural n) (natural_some n) (natural_figures n) ∙ ap (λ (m : ℕ). Some (pos m)) (natural_means n)
 
-pub whole_said : (z : ℤ) → saying_whole (whole z) ≡ answered z
+pub whole_said : (z : ℤ) → saying_whole (whole z) ≡ Some z
 unfolding whole saying_whole negated
 whole_said (pos n) = figures_have_no_sign (natural n) (natural_figures n) ∙ natural_said n
 whole_said (negsuc n) = ap negated (natural_said (suc n))
@@ -139,11 +139,11 @@ unfolding whole
 whole_plain (pos n) = without_sign (natural_plain n)
 whole_plain (negsuc n) = with_sign (natural_plain (suc n)) (omega (arith, natural_means (suc n)))
 
-said : Answer → ℤ
-said refused = pos 0
-said (answered z) = z
+said : Option ℤ → ℤ
+said None = pos 0
+said (Some z) = z
 
-pub whole_only : {text : List ℕ} → PlainWhole text → (z : ℤ) → saying_whole text ≡ answered z → text ≡ whole z
+pub whole_only : {text : List ℕ} → PlainWhole text → (z : ℤ) → saying_whole text ≡ Some z → text ≡ whole z
 unfolding whole saying_whole negated said
 whole_only (without_sign {text} p) z e =
     let says = figures_have_no_sign text p.only_figures ∙ figures_say text p.some p.only_figures in
@@ -151,7 +151,7 @@ whole_only (without_sign {text} p) z e =
     rw (← number) (natural_only text p)
 whole_only (with_sign {text} p some) z e = negative (meant text) refl some
   where
-    says : answered (neg_ℤ (pos (meant text))) ≡ answered z
+    says : Some (neg_ℤ (pos (meant text))) ≡ Some z
     says = ap negated (sym (figures_say text p.some p.only_figures)) ∙ e
 
     negative : (n : ℕ) → meant text ≡ n → 0 < n → 0x2d ∷ text ≡ whole z

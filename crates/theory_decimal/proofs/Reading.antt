@@ -11,7 +11,8 @@ use lib.ListN.{length, get_or}
 use lib.IntN.{ℤ, pos, negsuc}
 use lib.Pow.{pow_pos}
 use Rattle.theory_whole.specs.Kind.{Kind, unsigned}
-use Rattle.theory_answers.specs.Answer.{Answer, refused, answered, Answers}
+use Rattle.theory_answers.specs.Answer.{Answers}
+use Rattle.std.specs.Prelude.{Option, Some, None}
 use Rattle.theory_whole.specs.Fit.{refuse}
 use Rattle.theory_whole.proofs.Cases.{by_test, both_are, never}
 use Rattle.theory_whole.proofs.Fits.{Out, under, over, real_unsigned}
@@ -25,21 +26,21 @@ use Rattle.theory_decimal.specs.Read.{is_figure, all_figures, meant, saying_natu
 use Rattle.theory_decimal.proofs.Figures.{all_append, meant_append, meant_push}
 use Rattle.theory_decimal.proofs.Plain.{figures_say}
 
-pub other_text_refused : (text : List ℕ) → all_figures text ≡ false → saying_natural text ≡ refused
+pub other_text_refused : (text : List ℕ) → all_figures text ≡ false → saying_natural text ≡ None
 unfolding saying_natural
 other_text_refused [] e = refl
-other_text_refused (c ∷ text) e = only_if_not (all_figures (c ∷ text)) (answered (pos (meant (c ∷ text)))) e
+other_text_refused (c ∷ text) e = only_if_not (all_figures (c ∷ text)) (Some (pos (meant (c ∷ text)))) e
 
 -- ---- a part, by either reading
 
-module _ (saying : List ℕ → Answer) (k : Kind) (f t : ℕ) (s : List ℕ) where
+module _ (saying : List ℕ → Option ℤ) (k : Kind) (f t : ℕ) (s : List ℕ) where
   pub past_the_end : length s < t → Answers false (pos 0) (read_in saying k f t s)
   unfolding read_in
   past_the_end h = refusal (read_in saying k f t s) (only_if_not (is_within f t s) (fitting k (saying (part f t s))) (not_within (λ w. omega (arith, w.ends))))
 
   -- the ends may be the wrong way round: then the part is empty
-  module _ (nothing : saying [] ≡ refused) where
-    empty_refused : t ≤ f → fitting k (saying (part f t s)) ≡ refused
+  module _ (nothing : saying [] ≡ None) where
+    empty_refused : t ≤ f → fitting k (saying (part f t s)) ≡ None
     unfolding fitting
     empty_refused l = let e : t - f ≡ 0 = omega arith in rw (e, nothing)
 
@@ -54,11 +55,11 @@ module _ (saying : List ℕ → Answer) (k : Kind) (f t : ℕ) (s : List ℕ) wh
     pub no_text : t ≤ length s → t ≤ f → Answers false (pos 0) (read_in saying k f t s)
     no_text h l = refusal (read_in saying k f t s) (read_part h ∙ empty_refused l)
 
-pub no_natural : saying_natural [] ≡ refused
+pub no_natural : saying_natural [] ≡ None
 unfolding saying_natural
 no_natural = refl
 
-pub no_whole : saying_whole [] ≡ refused
+pub no_whole : saying_whole [] ≡ None
 unfolding saying_whole
 no_whole = refl
 
@@ -69,7 +70,7 @@ module _ (k : Kind) (f t : ℕ) (s : List ℕ) where
       let w : Within f t s = record { ordered = omega arith; ends = h } in
       read_part saying_natural k f t s no_natural h ∙ ap (fitting k) (figures_say (part f t s) (omega (arith, length_part w)) e)
 
-  in_others : t ≤ length s → all_figures (part f t s) ≡ false → natural_in k f t s ≡ refused
+  in_others : t ≤ length s → all_figures (part f t s) ≡ false → natural_in k f t s ≡ None
   unfolding fitting
   in_others h e = read_part saying_natural k f t s no_natural h ∙ ap (fitting k) (other_text_refused (part f t s) e)
 

@@ -8,6 +8,9 @@ use borrow.Author.Tests.{le-ltb}
 use lib.ListN.{length, set, length-set}
 use lib.IntN.{ℤ, pos, negsuc, nat_abs}
 use lib.Signed.{lt_z}
+use Rattle.std.specs.Prelude.{Option, Some, None}
+use Rattle.std.specs.Option.{is_some, unwrap_or}
+use Rattle.theory_answers.specs.Flag.{Flagged}
 use Rattle.theory_answers.proofs.Says.{pinned_outcome}
 use Rattle.theory_lists.specs.Written.{written}
 use Rattle.theory_lists.proofs.Written.{length_written, written_one, written_twice_up}
@@ -62,6 +65,12 @@ whole_by_sign (negsuc n) = refl
 pub shown_by_sign : {ok : Bool} {bytes : ℕ} {s : List ℕ} (at : ℕ) {d : List ℕ} (t x : ℤ) (m : ℕ) → t ≡ x → m ≡ nat_abs t
     → Shows ok bytes s at (with_sign (lt_z t (pos 0)) m) d → Shows ok bytes s at (whole x) d
 shown_by_sign at t x m z e h = rw (← z, ← whole_by_sign t, ← e) h
+
+-- how many bytes, or none, as C has it
+pub flagged_shows : (ok : Bool) (bytes : ℕ) (o : Option ℕ) (before : List ℕ) (at : ℕ) (text after : List ℕ)
+    → Shows (is_some o) (unwrap_or o 0) before at text after → Flagged ok bytes 0 o → Shows ok bytes before at text after
+flagged_shows ok bytes None before at text after s f = rw (f.0, f.1) s
+flagged_shows ok bytes (Some n) before at text after s f = rw (f.0, f.1) s
 
 -- two writers of the same text, at the same place of the same list, answer alike and leave the same
 pub pinned_shows : {ok ok' : Bool} {bytes bytes' : ℕ} (before : List ℕ) (at : ℕ) (text : List ℕ) {after after' : List ℕ}

@@ -9,7 +9,8 @@ use lib.ListN.{length, get_or}
 use lib.IntN.{ℤ, pos, neg_ℤ}
 use lib.Pow.{pow_pos}
 use Rattle.theory_whole.specs.Kind.{unsigned, signed}
-use Rattle.theory_answers.specs.Answer.{Answer, Answers}
+use Rattle.theory_answers.specs.Answer.{Answers}
+use Rattle.std.specs.Prelude.{Option}
 use Rattle.theory_whole.specs.Fit.{refuse}
 use Rattle.theory_whole.proofs.Halves.{up_neg, down_neg}
 use Rattle.theory_whole.proofs.Fits.{under, over, real_signed}
@@ -30,12 +31,12 @@ module _ (w f t : ℕ) (s : List ℕ) (inside : f < t) (h : t ≤ length s) wher
   unfolding saying_whole
   text_without_sign n = rw (part_cons f t s inside h, ne_eqb (get_or s f 0) 0x2d n)
 
-  large_out : {a : Answer} → RefusedOrOver w a → Answers false (pos 0) (fitting (signed w) a)
+  large_out : {a : Option ℤ} → RefusedOrOver w a → Answers false (pos 0) (fitting (signed w) a)
   unfolding fitting
   large_out no_number = (refl, refl)
   large_out (too_large n o) = refuses (real_signed w) (pos n) (over (omega arith))
 
-  negative_out : {a : Answer} → RefusedOrOver w a → Answers false (pos 0) (fitting (signed w) (negated a))
+  negative_out : {a : Option ℤ} → RefusedOrOver w a → Answers false (pos 0) (fitting (signed w) (negated a))
   unfolding fitting negated
   negative_out no_number = (refl, refl)
   negative_out (too_large n o) =
@@ -49,17 +50,15 @@ module _ (w f t : ℕ) (s : List ℕ) (inside : f < t) (h : t ≤ length s) wher
     negative_refused o =
         rw (read_part saying_whole (signed w) f t s no_whole h, negative_text sign) (negative_out (was_refused w (f + 1) t s ok v r o h))
 
-    pub negative_read : ok ≡ true → (ok' : Bool) (x : ℤ) → Answers ok' x (refuse (signed w) (neg_ℤ (pos v))) → Answers ok' x (whole_in (signed w) f t s)
+    pub negative_read : ok ≡ true → whole_in (signed w) f t s ≡ refuse (signed w) (neg_ℤ (pos v))
     unfolding fitting negated
-    negative_read o ok' x a =
-        rw (read_part saying_whole (signed w) f t s no_whole h, negative_text sign, was_said w (f + 1) t s ok v r o) a
+    negative_read o = rw (read_part saying_whole (signed w) f t s no_whole h, negative_text sign, was_said w (f + 1) t s ok v r o) refl
 
   module _ (ok : Bool) (v : ℕ) (r : Answers ok (pos v) (natural_in (unsigned w) f t s)) (no_sign : get_or s f 0 ≡ 0x2d → ⊥) where
     pub positive_refused : ok ≡ false → Answers false (pos 0) (whole_in (signed w) f t s)
     positive_refused o =
         rw (read_part saying_whole (signed w) f t s no_whole h, text_without_sign no_sign) (large_out (was_refused w f t s ok v r o h))
 
-    pub positive_read : ok ≡ true → (ok' : Bool) (x : ℤ) → Answers ok' x (refuse (signed w) (pos v)) → Answers ok' x (whole_in (signed w) f t s)
+    pub positive_read : ok ≡ true → whole_in (signed w) f t s ≡ refuse (signed w) (pos v)
     unfolding fitting
-    positive_read o ok' x a =
-        rw (read_part saying_whole (signed w) f t s no_whole h, text_without_sign no_sign, was_said w f t s ok v r o) a
+    positive_read o = rw (read_part saying_whole (signed w) f t s no_whole h, text_without_sign no_sign, was_said w f t s ok v r o) refl

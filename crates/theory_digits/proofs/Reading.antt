@@ -10,7 +10,8 @@ use lib.Dec.{eqb}
 use lib.IntN.{pos}
 use lib.ListN.{length, get_or, take, length-reverse}
 use lib.Seq.{take-suc, take_all}
-use Rattle.theory_answers.specs.Answer.{answered, only_if, Answers}
+use Rattle.theory_answers.specs.Answer.{only_if, Answers}
+use Rattle.std.specs.Prelude.{Some}
 use Rattle.theory_whole.proofs.Cases.{by_test}
 use Rattle.theory_lists.specs.Bounds.{AllBelow}
 use Rattle.theory_lists.proofs.Below.{all_below, below_reverse}
@@ -77,11 +78,11 @@ number_high_refused b count s n = number_refused b count (reverse s) (λ e. n (s
 -- ---- there and back
 
 module _ (b count : ℕ) (p : 0 < b) where
-  pub number_of_digits : (n : ℕ) → n < b ^ count → number b count (digits b count n) ≡ answered (pos n)
+  pub number_of_digits : (n : ℕ) → n < b ^ count → number b count (digits b count n) ≡ Some (pos n)
   unfolding number only_if
   number_of_digits n h = rw (eq-eqb (length (digits b count n)) count (length_digits b count n), value_of_digits b count n p h)
 
-  pub number_high_of_digits_high : (n : ℕ) → n < b ^ count → number_high b count (digits_high b count n) ≡ answered (pos n)
+  pub number_high_of_digits_high : (n : ℕ) → n < b ^ count → number_high b count (digits_high b count n) ≡ Some (pos n)
   unfolding number_high
   number_high_of_digits_high n h = rw reverse-reverse (number_of_digits n h)
 

@@ -1,13 +1,13 @@
 -- A signed integer is stored as bits: `of_z w` writes a number as bits and `to_z w` reads them, so where code holds a signed a, a goal says
 -- `to_z w (of_z w a)`. `SFits w a` is how the language says that a is of the signed kind. This is the one file that names the widths.
-use mathlib.Core.Path.{◌≡◌, refl, ap, ◌∙◌}
+use mathlib.Core.Path.{◌≡◌, refl}
 use Prim.Native.Nat.{ℕ, suc, ◌+◌, ◌-◌, ◌*◌, ◌/◌, ◌%◌, ◌^◌, ◌<◌}
-use native.Mathlib.Nat.{lt_of_le_of_lt, mod-lt}
+use native.Mathlib.Nat.{mod-lt}
 use native.Mathlib.Omega.{arith}
 use lib.Pow.{pow_pos}
 use lib.Dec.{ltb, lit≤}
 use lib.IntN.{ℤ, pos, negsuc, ◌*ℤ◌}
-use lib.Signed.{mag, shr_z, mag_shr}
+use lib.Signed.{mag, shr_z}
 use mir.Syntax.{Width, w8, w16, w32, w64, w128}
 use mir.Val.{bits, hbits, SFits, to_z, of_z}
 use mir.Facts.{to_z-of_z}
@@ -43,7 +43,7 @@ some_bits w64 = lit≤ tt
 some_bits w128 = lit≤ tt
 
 -- the language's shift right is the Euclidean quotient
-rounded_down : (a : ℤ) (m : ℕ) → shr_z a m ≡ ediv a (pos m)
+pub rounded_down : (a : ℤ) (m : ℕ) → shr_z a m ≡ ediv a (pos m)
 unfolding ediv
 rounded_down (pos a) m = refl
 rounded_down (negsuc a) m = refl
@@ -102,8 +102,3 @@ module _ (w : Width) where
       let b = mod-lt (of_z w a * m) p in
       let r = wrap_again (real_signed (bits w)) (real_unsigned (bits w)) refl (pos (of_z w a) *ℤ pos m) t (bits_read b) in
       wrap_op (real_signed (bits w)) ◌*ℤ◌ (alike_mul p) _ a' (alike_itself (pos m)) r
-
-  pub shifted_right : {a : ℤ} (m : ℕ) → SFits w a → to_z w (of_z w (shr_z (to_z w (of_z w a)) m)) ≡ wrap S (ediv a (pos m))
-  shifted_right {a} m f =
-      let g : SFits w (shr_z a m) = record { sfits = lt_of_le_of_lt (mag_shr a m) f.sfits } in
-      rw (to_z-of_z f) (to_z-of_z g ∙ wrap_same (real_signed (bits w)) (shr_z a m) (in_signed g) ∙ ap (wrap S) (rounded_down a m))

@@ -14,6 +14,7 @@ pub mod Divisions
 pub mod OnlyPairs
 pub mod Quotients
 pub mod Unsigned
+pub mod Signed
 pub mod Products
 pub mod Multiples
 pub mod Orders

@@ -7,7 +7,7 @@ use native.Mathlib.Omega.{arith}
 use lib.IntN.{ℤ, pos, nat_abs, ◌+ℤ◌, ◌-ℤ◌, ◌*ℤ◌, *ℤ-zero, +ℤ_idr}
 use Rattle.theory_whole.specs.Kind.{Kind, least, greatest}
 use Rattle.theory_whole.specs.Division.{◌modulo◌, ediv}
-use Rattle.theory_answers.specs.Answer.{refused, answered}
+use Rattle.std.specs.Prelude.{Some, None}
 use Rattle.theory_whole.specs.Fit.{fits, wrap, clamp, refuse}
 use Rattle.theory_whole.proofs.Halves.{up, down, by_halves, same_halves, up_neg, down_neg, sum, difference}
 use Rattle.theory_whole.proofs.Alike.{Alike, alike_itself, alike_same, alike_turned, alike_once, alike_then, alike_add, alike_mul}
@@ -48,13 +48,13 @@ module _ {k : Kind} (real : Real k) (z : ℤ) where
 
 -- ---- refuse: the number itself exactly where it fits
 
-pub refuse_fits : (k : Kind) (z : ℤ) → fits k z ≡ true → refuse k z ≡ answered z
+pub refuse_fits : (k : Kind) (z : ℤ) → fits k z ≡ true → refuse k z ≡ Some z
 unfolding refuse
-refuse_fits k z e = only_if_so (fits k z) (answered z) e
+refuse_fits k z e = only_if_so (fits k z) (Some z) e
 
-pub refuse_not : (k : Kind) (z : ℤ) → fits k z ≡ false → refuse k z ≡ refused
+pub refuse_not : (k : Kind) (z : ℤ) → fits k z ≡ false → refuse k z ≡ None
 unfolding refuse
-refuse_not k z e = only_if_not (fits k z) (answered z) e
+refuse_not k z e = only_if_not (fits k z) (Some z) e
 
 -- ---- clamp: nearest (`clamp_nearest`), and alone in that
 

@@ -6,8 +6,8 @@ use native.Mathlib.Omega.{arith}
 use lib.IntN.{ℤ, pos, negsuc}
 use lib.Signed.{le_z, lt_z}
 use borrow.Author.Tests.{eqb-true, eq-eqb}
-use Rattle.theory_whole.specs.declared.Ordering.{Ordering}
-use Rattle.theory_whole.specs.declared.Ordering.TheVariants.{Less, Equal, Greater}
+use Rattle.std.specs.declared.cmp.Ordering.{Ordering}
+use Rattle.std.specs.declared.cmp.Ordering.TheVariants.{Less, Equal, Greater}
 use Rattle.theory_whole.specs.Order.{order, eq_z, is_less, is_equal, is_greater}
 use Rattle.theory_whole.proofs.Cases.{by_test, never, not_so}
 use Rattle.theory_whole.proofs.Halves.{up, down, by_halves, same_halves, lt_yes, lt_no, not_lt, is_le, not_le}
@@ -28,7 +28,7 @@ is_equal_lem x y e = rw e (itself y)
 pub not_equal : (x y : ℤ) → (up x + down y ≡ up y + down x → ⊥) → eq_z x y ≡ false
 not_equal x y n = not_so (λ e. n (same_halves (equal_yes x y e)))
 
-not_less_is : (x y : ℤ) → not (lt_z y x) ≡ le_z x y
+pub not_less_is : (x y : ℤ) → not (lt_z y x) ≡ le_z x y
 not_less_is x y =
     by_test (lt_z y x)
     (λ e. let l = lt_yes y x e in rw (e, not_le x y (omega arith)))
@@ -46,6 +46,9 @@ module _ (x y : ℤ) where
   pub order_equal : x ≡ y → order x y ≡ Equal
   unfolding order
   order_equal e = rw (not_lt x y (rw e (omega arith)), not_lt y x (rw e (omega arith)))
+
+  pub order_neither : lt_z x y ≡ false → lt_z y x ≡ false → order x y ≡ Equal
+  order_neither a b = let l = lt_no x y a in let m = lt_no y x b in order_equal (by_halves x y (omega arith))
 
   -- what the three tests of an answer are
   pub record Ordered (o : Ordering) : Type 0 where

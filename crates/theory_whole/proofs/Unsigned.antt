@@ -10,7 +10,9 @@ use borrow.Author.Tests.{eq-eqb, ne_eqb}
 use Rattle.theory_whole.specs.Kind.{unsigned}
 use Rattle.theory_whole.specs.Division.{◌modulo◌, ediv}
 use Rattle.theory_whole.specs.Order.{eq_z}
-use Rattle.theory_answers.specs.Answer.{Answer, only_if, Answers}
+use Rattle.theory_answers.specs.Answer.{only_if, Answers}
+use Rattle.std.specs.Prelude.{Option, Some, None}
+use Rattle.std.specs.Option.{option_map, unwrap_or}
 use Rattle.theory_whole.specs.Fit.{wrap, clamp, refuse, divided}
 use Rattle.theory_whole.proofs.Halves.{up, down, by_halves, difference}
 use Rattle.theory_whole.proofs.Alike.{modulo_below, modulo_alike}
@@ -101,6 +103,14 @@ module _ (w : ℕ) where
         too_large (under o) = let none : ⊥ = omega arith in absurd none
         too_large (over o) = clamps_over (omega arith)
 
+  -- the greatest number stands in for a number that is refused
+  pub clamps_or_greatest : {A : Type 0} (whole : A → ℕ) (most : A) (n : ℕ) (o : Option A) → whole most + 1 ≡ 2 ^ w
+      → option_map (λ r. pos (whole r)) o ≡ refuse (unsigned w) (pos n) → pos (whole (unwrap_or o most)) ≡ clamp (unsigned w) (pos n)
+  clamps_or_greatest whole most n None m e =
+      let top : whole most ≡ 2 ^ w - 1 = omega arith in
+      rw top (clamps_refusal false 0 n (refusal _ (sym e)) refl)
+  clamps_or_greatest whole most n (Some r) m e = clamps_answer true (whole r) n (answer _ _ (sym e)) refl
+
   -- ---- divisions
   module _ (a b : ℕ) (v : ℤ) where
     pub division_refused : b ≡ 0 → Answers false (pos 0) (divided (unsigned w) (pos b) (pos (a / b)) v)
@@ -113,8 +123,8 @@ module _ (w : ℕ) where
         (in_fits (real_unsigned w) (pos (a / b)) (in_unsigned (lt_of_le_of_lt (div-le_self a b) h))))
 
 -- ---- what is asked of a divisor
-pub by_zero_refused : {b : ℕ} (x : Answer) → b ≡ 0 → Answers false (pos 0) (only_if (not (eq_z (pos b) (pos 0))) x)
+pub by_zero_refused : {b : ℕ} (x : Option ℤ) → b ≡ 0 → Answers false (pos 0) (only_if (not (eq_z (pos b) (pos 0))) x)
 by_zero_refused {b} x e = refusal (only_if (not (eq_z (pos b) (pos 0))) x) (only_if_not (not (eq_z (pos b) (pos 0))) x (rw (is_zero b e)))
 
-pub by_other : {b : ℕ} (ok : Bool) (v : ℤ) (x : Answer) → (b ≡ 0 → ⊥) → Answers ok v x → Answers ok v (only_if (not (eq_z (pos b) (pos 0))) x)
-by_other {b} ok v x n s = rw (only_if_so (not (eq_z (pos b) (pos 0))) x (rw (not_zero b n))) s
+pub by_other : {b : ℕ} (x : Option ℤ) → (b ≡ 0 → ⊥) → only_if (not (eq_z (pos b) (pos 0))) x ≡ x
+by_other {b} x n = only_if_so (not (eq_z (pos b) (pos 0))) x (rw (not_zero b n))

@@ -1,8 +1,8 @@
 -- The order of whole numbers as an answer, and what can be read off it.
 use Rattle.std.specs.Prelude.{ℤ, pos, negsuc, eqb, Bool, true, false, cond}
 use Rattle.std.specs.Int.Signed.{lt_z}
-use Rattle.theory_whole.specs.declared.Ordering.{Ordering}
-use Rattle.theory_whole.specs.declared.Ordering.TheVariants.{Less, Equal, Greater}
+use Rattle.std.specs.declared.cmp.Ordering.{Ordering}
+use Rattle.std.specs.declared.cmp.Ordering.TheVariants.{Less, Equal, Greater}
 
 unfoldable pub order : ℤ → ℤ → Ordering
 order x y = cond (lt_z x y) Less (cond (lt_z y x) Greater Equal)

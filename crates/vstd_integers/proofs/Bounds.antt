@@ -6,7 +6,7 @@ use native.Mathlib.Omega.{arith}
 use lib.IntN.{ℤ, pos, ◌+ℤ◌, ◌-ℤ◌}
 use lib.Signed.{lt_z}
 use Rattle.theory_whole.specs.Kind.{Kind, least, greatest}
-use Rattle.theory_answers.specs.Answer.{refused, answered}
+use Rattle.std.specs.Prelude.{Some, None}
 use Rattle.theory_whole.specs.Fit.{fits, wrap, clamp, refuse}
 use Rattle.theory_whole.proofs.Cases.{by_test}
 use Rattle.theory_whole.proofs.Halves.{up, down, up_neg, down_neg, sum, difference, lt_yes, lt_no, not_lt}
@@ -35,19 +35,19 @@ module _ {k : Kind} (real : Real k) (z : ℤ) where
   not_below h = let u = up_neg (pos k.low) in let d = down_neg (pos k.low) in not_lt z (least k) (omega arith)
 
   -- ---- refuse
-  pub refuse_by_bounds : refuse k z ≡ cond (lt_z (greatest k) z || lt_z z (least k)) refused (answered z)
+  pub refuse_by_bounds : refuse k z ≡ cond (lt_z (greatest k) z || lt_z z (least k)) None (Some z)
   unfolding refuse
   refuse_by_bounds =
       by_test (lt_z (greatest k) z)
-      (λ a. rw (a, only_if_not (fits k z) (answered z) (out_not_fits real z (over (above_max a)))))
+      (λ a. rw (a, only_if_not (fits k z) (Some z) (out_not_fits real z (over (above_max a)))))
       (λ a. by_test (lt_z z (least k))
-      (λ b. rw (a, b, only_if_not (fits k z) (answered z) (out_not_fits real z (under (below_min b)))))
-      (λ b. rw (a, b, only_if_so (fits k z) (answered z) (in_fits real z (record { above = at_least_min b; below = at_most_max a })))))
+      (λ b. rw (a, b, only_if_not (fits k z) (Some z) (out_not_fits real z (under (below_min b)))))
+      (λ b. rw (a, b, only_if_so (fits k z) (Some z) (in_fits real z (record { above = at_least_min b; below = at_most_max a })))))
 
-  pub refuse_by_max : down z ≤ k.low + up z → refuse k z ≡ cond (lt_z (greatest k) z) refused (answered z)
+  pub refuse_by_max : down z ≤ k.low + up z → refuse k z ≡ cond (lt_z (greatest k) z) None (Some z)
   refuse_by_max h = refuse_by_bounds ∙ by_test (lt_z (greatest k) z) (λ a. rw a) (λ a. rw (a, not_below h))
 
-  pub refuse_by_min : up z + k.low < k.size + down z → refuse k z ≡ cond (lt_z z (least k)) refused (answered z)
+  pub refuse_by_min : up z + k.low < k.size + down z → refuse k z ≡ cond (lt_z z (least k)) None (Some z)
   refuse_by_min h = refuse_by_bounds ∙ rw (not_above h)
 
   -- ---- clamp

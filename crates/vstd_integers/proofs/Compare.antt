@@ -2,8 +2,8 @@
 use mathlib.Core.Path.{◌≡◌, refl, ap, ◌∙◌}
 use mathlib.Core.Bool.{not, ◌||◌}
 use lib.IntN.{ℤ}
-use Rattle.theory_whole.specs.declared.Ordering.{Ordering}
-use Rattle.theory_whole.specs.declared.Ordering.TheVariants.{Less, Equal, Greater}
+use Rattle.std.specs.declared.cmp.Ordering.{Ordering}
+use Rattle.std.specs.declared.cmp.Ordering.TheVariants.{Less, Equal, Greater}
 use Rattle.theory_whole.specs.Order.{order, is_less, is_equal, is_greater}
 use Rattle.theory_whole.proofs.Orders.{equal_is}
 use Rattle.vstd_integers.specs.Compare.{clone, eq, ne, cmp, lt, le, gt, ge}

@@ -10,7 +10,8 @@ use lib.Signed.{lt_z, quot_z, rem_z}
 use Rattle.theory_whole.specs.Kind.{signed, least, greatest}
 use Rattle.theory_whole.specs.Division.{◌modulo◌, ediv, emod}
 use Rattle.theory_whole.specs.Order.{eq_z}
-use Rattle.theory_answers.specs.Answer.{refused, answered, only_if}
+use Rattle.theory_answers.specs.Answer.{only_if}
+use Rattle.std.specs.Prelude.{Some, None}
 use Rattle.theory_whole.specs.Fit.{fits, wrap, refuse, divided}
 use Rattle.theory_whole.specs.Order.{eq_z}
 use Rattle.theory_whole.proofs.Cases.{by_test, never}
@@ -140,7 +141,7 @@ module _ (w : ℕ) (some : 0 < w) where
     unfolding divided only_if divided_unless
     divided_kept q v e = rw (e, quotient_fits, zero_is y) (turned (eq_z y (pos 0)) (eq_z x (least (signed w)) && eq_z y (negsuc 0)))
       where
-        turned : (s t : Bool) → cond (not s && not t) (answered v) refused ≡ cond (s || t) refused (answered v)
+        turned : (s t : Bool) → cond (not s && not t) (Some v) None ≡ cond (s || t) None (Some v)
         turned true t = refl
         turned false true = refl
         turned false false = refl

@@ -11,7 +11,8 @@ use borrow.Author.Tests.{eqb-true, eqb-false}
 use Rattle.theory_whole.specs.Kind.{unsigned, signed}
 use Rattle.theory_whole.specs.Division.{◌modulo◌, ediv, emod}
 use Rattle.theory_whole.specs.Order.{eq_z}
-use Rattle.theory_answers.specs.Answer.{refused, answered, only_if}
+use Rattle.theory_answers.specs.Answer.{only_if}
+use Rattle.std.specs.Prelude.{Some, None}
 use Rattle.theory_whole.specs.Fit.{wrap, clamp, refuse, divided}
 use Rattle.theory_whole.specs.Multiple.{is_multiple, next_multiple}
 use Rattle.theory_whole.specs.Order.{eq_z}
@@ -52,7 +53,7 @@ module _ (w : ℕ) {a b : ℕ} (i : a < 2 ^ w) (j : b < 2 ^ w) where
   unfolding checked_mul
   checked_mul_kept = refuse_by_max (real_unsigned w) (pos (a * b)) (omega arith)
 
-  divided_kept : (v : ℤ) → divided (unsigned w) (pos b) (pos (a / b)) v ≡ cond (eq_z (pos b) (pos 0)) refused (answered v)
+  divided_kept : (v : ℤ) → divided (unsigned w) (pos b) (pos (a / b)) v ≡ cond (eq_z (pos b) (pos 0)) None (Some v)
   divided_kept v =
       by_test (eqb b 0)
       (λ e. rw e (divided_by_zero (unsigned w) (pos b) (pos (a / b)) v e))

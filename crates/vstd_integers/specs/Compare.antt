@@ -2,8 +2,8 @@
 -- read off partial_cmp_spec, which is always Some).
 use Rattle.std.specs.Prelude.{ℤ, Bool, not, ◌||◌, cond}
 use Rattle.std.specs.Int.Signed.{lt_z}
-use Rattle.theory_whole.specs.declared.Ordering.{Ordering}
-use Rattle.theory_whole.specs.declared.Ordering.TheVariants.{Less, Equal, Greater}
+use Rattle.std.specs.declared.cmp.Ordering.{Ordering}
+use Rattle.std.specs.declared.cmp.Ordering.TheVariants.{Less, Equal, Greater}
 use Rattle.theory_whole.specs.Order.{eq_z, is_less, is_equal, is_greater}
 
 unfoldable pub clone : ℤ → ℤ

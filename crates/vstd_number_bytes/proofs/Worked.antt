@@ -3,7 +3,8 @@ use mathlib.Core.Path.{◌≡◌, refl}
 use mathlib.Core.List.{List, [], ◌∷◌}
 use Prim.Native.Nat.{ℕ}
 use lib.IntN.{pos}
-use Rattle.theory_answers.specs.Answer.{refused, answered, only_if}
+use Rattle.theory_answers.specs.Answer.{only_if}
+use Rattle.std.specs.Prelude.{Some, None}
 use Rattle.vstd_number_bytes.specs.Bytes.{masked_bytes, spec_to_le_bytes, joined_bytes, spec_from_le_bytes, from_le_bytes}
 
 abbrev eight : List ℕ
@@ -14,9 +15,9 @@ unfolding spec_to_le_bytes masked_bytes
 to_le_bytes_worked = (refl, refl)
 
 pub from_le_bytes_worked :
-    (from_le_bytes 64 7 eight ≡ answered (pos 0x0102030405060708))
-    × (from_le_bytes 16 1 (0x80 ∷ 0xff ∷ []) ≡ answered (pos 0xff80))
-    × (from_le_bytes 16 1 (0x80 ∷ []) ≡ refused)
-    × (from_le_bytes 16 1 (0x80 ∷ 0xff ∷ 0x00 ∷ []) ≡ refused)
+    (from_le_bytes 64 7 eight ≡ Some (pos 0x0102030405060708))
+    × (from_le_bytes 16 1 (0x80 ∷ 0xff ∷ []) ≡ Some (pos 0xff80))
+    × (from_le_bytes 16 1 (0x80 ∷ []) ≡ None)
+    × (from_le_bytes 16 1 (0x80 ∷ 0xff ∷ 0x00 ∷ []) ≡ None)
 unfolding from_le_bytes spec_from_le_bytes joined_bytes only_if
 from_le_bytes_worked = (refl, refl, refl, refl)

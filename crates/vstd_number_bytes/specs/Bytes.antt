@@ -1,7 +1,7 @@
 -- vstd's bytes of a number (bytes), lowest first, for a number of w bits in `count` bytes: shifts, masks and the `|` of shifted bytes.
-use Rattle.std.specs.Prelude.{List, [], ◌∷◌, ℕ, zero, suc, ◌*◌, ◌/◌, ◌%◌, ◌^◌, eqb, pos, length, get_or}
+use Rattle.std.specs.Prelude.{List, [], ◌∷◌, ℕ, ℤ, zero, suc, ◌*◌, ◌/◌, ◌%◌, ◌^◌, eqb, pos, length, get_or, Option, Some}
 use Rattle.std.specs.Int.Bits.{bit_and, bit_or}
-use Rattle.theory_answers.specs.Answer.{Answer, answered, only_if}
+use Rattle.theory_answers.specs.Answer.{only_if}
 
 -- (x >> 8 * i) & 0xff, for `count` places from i on
 unfoldable pub masked_bytes : ℕ → ℕ → ℕ → List ℕ
@@ -21,5 +21,5 @@ unfoldable pub spec_from_le_bytes : ℕ → ℕ → List ℕ → ℕ
 spec_from_le_bytes w count s = joined_bytes w s 1 count (get_or s 0 0)
 
 -- what vstd demands, that there are just so many bytes, is refused otherwise
-unfoldable pub from_le_bytes : ℕ → ℕ → List ℕ → Answer
-from_le_bytes w count s = only_if (eqb (length s) (suc count)) (answered (pos (spec_from_le_bytes w count s)))
+unfoldable pub from_le_bytes : ℕ → ℕ → List ℕ → Option ℤ
+from_le_bytes w count s = only_if (eqb (length s) (suc count)) (Some (pos (spec_from_le_bytes w count s)))
