@@ -1,0 +1,99 @@
+// The unsigned integers of 32 bits.
+
+ghost use Rattle.std.specs.Prelude.{◌+◌, ◌*◌, ◌/◌, ◌%◌, ◌^◌};
+ghost use Rattle.std.proofs.Common.{refl, lit<, lit≤};
+ghost use Rattle.integers.specs.Tests.{natural_equal, natural_less, natural_at_most};
+
+use crate::unsigned::Unsigned;
+
+impl Unsigned for u32 {
+    ghost bits = { 32 };
+
+    ghost whole = { λ a. a };
+
+    const BITS: u32 = 32;
+
+    ghost BITS = { 32 };
+
+    const ZERO: u32 = 0;
+
+    ghost ZERO = { 0 };
+
+    const ONE: u32 = 1;
+
+    ghost ONE = { 1 };
+
+    const MAX: u32 = u32::MAX;
+
+    ghost MAX = { 4294967295 };
+
+    fn known(self) {}
+
+    fn room(self) -> u32 {
+        u32::MAX - self
+    }
+
+    fn times(self, other: u32) -> u32 {
+        ((self as u64) * (other as u64) % 4294967296) as u32
+    }
+
+    fn to_u64(self) -> u64 {
+        self as u64
+    }
+
+    fn truncated(n: u64) -> u32 {
+        (n % 4294967296) as u32
+    }
+
+    fn from_u64(n: u64) -> Option<u32> {
+        if n < 4294967296 { Some(n as u32) } else { None }
+    }
+
+    ghost bits_law = { refl };
+
+    ghost some_bits_law = { lit< tt };
+
+    ghost zero_law = { refl };
+
+    ghost one_law = { refl };
+
+    ghost max_law = { refl };
+
+    ghost eq_law = { natural_equal };
+
+    ghost lt_law = { natural_less };
+
+    ghost le_law = { natural_at_most };
+
+    ghost can_add_law = { λ a b h. h };
+
+    ghost add_law = { λ a b r h. h };
+
+    ghost can_sub_law = { λ a b h. h };
+
+    ghost sub_law = { λ a b r h. h };
+
+    ghost can_mul_law = { λ a b h. h };
+
+    ghost mul_law = { λ a b r h. h };
+
+    ghost can_div_law = { λ a b h. h };
+
+    ghost div_law = { λ a b r h. h };
+
+    ghost can_rem_law = { λ a b h. h };
+
+    ghost rem_law = { λ a b r h. h };
+
+    ghost can_shl_law = { λ a k h. h };
+
+    ghost shl_law = { λ a k r h. h };
+
+    ghost can_shr_law = { λ a k h. h };
+
+    ghost shr_law = { λ a k r h. h };
+
+    ghost bytes_law = { refl };
+
+    ghost most_bits_law = { lit≤ tt };
+}
