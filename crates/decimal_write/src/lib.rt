@@ -1,48 +1,42 @@
-// Numbers written as decimal text at a place of a slice (theory_decimal): 64 bits, which every other kind goes by, and then each of those. No function asks
-// anything of its caller.
+// Numbers written as decimal text at a place of a slice (theory_decimal): 64 bits, which every other kind goes by. No function asks anything of its caller.
 #![tactic(auto)]
 
 ghost use Rattle.std.specs.Prelude.{◌≡◌, ◌+◌, ◌≤◌, ◌<◌, ◌^◌, length};
+ghost use Rattle.std.specs.Option.{is_some, unwrap_or};
 ghost use Rattle.theory_lists.specs.Written.{written};
 ghost use Rattle.theory_decimal.specs.Written as text;
 
-// How many bytes were written, or refused: then 0.
-#[repr(C)]
-#[derive(Clone, Copy)]
-pub struct Length {
-    pub ok: bool,
-    pub value: usize,
-}
+use integers::{Signed, Unsigned};
+use signed_order::magnitude;
 
 fn places_of_four(n: u64) -> usize
     requires { n < 10000 }
     ensures { result ≡ text.places 10 n }
 {
     if n < 10 {
-        return 1;
+        1
+    } else if n < 100 {
+        2
+    } else if n < 1000 {
+        3
+    } else {
+        4
     }
-    if n < 100 {
-        return 2;
-    }
-    if n < 1000 {
-        return 3;
-    }
-    4
 }
 
 fn places(n: u64) -> usize
     ensures { (result ≡ text.places 10 n) × (result ≤ 20) }
 {
-    let mut count: usize = 0;
+    let mut count = 0;
     let mut left = n;
     while 10000 <= left {
-        left = left / 10000;
+        left /= 10000;
         count += 4;
     }
     count + places_of_four(left)
 }
 
-// Writes so many figures of n, two at a time, from the last.
+// Writes so many figures of n, two at a time, from the last: by the place, since chunks from the end are no plainer where one figure may be left over.
 fn put(out: &mut [u8], at: usize, count: usize, n: u64)
     requires { (at + count ≤ length out.old) × (n < 10 ^ count) }
     ensures { out.new ≡ written out.old at (text.figures count n) }
@@ -61,106 +55,46 @@ fn put(out: &mut [u8], at: usize, count: usize, n: u64)
     }
 }
 
-pub fn write_u64(out: &mut [u8], at: usize, x: u64) -> Length
-    ensures { text.Shows result.ok result.value out.old at (text.natural x) out.new }
+fn write_u64(out: &mut [u8], at: usize, x: u64) -> Option<usize>
+    ensures { text.Shows (is_some result) (unwrap_or result 0) out.old at (text.natural x) out.new }
 {
     let count = places(x);
     if out.len() < count {
-        return Length {
-            ok: false,
-            value: 0,
-        };
+        return None;
     }
     if out.len() - count < at {
-        return Length {
-            ok: false,
-            value: 0,
-        };
+        return None;
     }
     put(out, at, count, x);
-    Length {
-        ok: true,
-        value: count,
-    }
+    Some(count)
 }
 
-fn write_with_sign(out: &mut [u8], at: usize, negative: bool, magnitude: u64) -> Length
-    ensures { text.Shows result.ok result.value out.old at (text.with_sign negative magnitude) out.new }
+fn write_with_sign(out: &mut [u8], at: usize, negative: bool, magnitude: u64) -> Option<usize>
+    ensures { text.Shows (is_some result) (unwrap_or result 0) out.old at (text.with_sign negative magnitude) out.new }
 {
     if !negative {
         return write_u64(out, at, magnitude);
     }
     let count = places(magnitude);
     if out.len() <= count {
-        return Length {
-            ok: false,
-            value: 0,
-        };
+        return None;
     }
     if out.len() - count <= at {
-        return Length {
-            ok: false,
-            value: 0,
-        };
+        return None;
     }
     out[at] = b'-';
     put(out, at + 1, count, magnitude);
-    Length {
-        ok: true,
-        value: count + 1,
-    }
+    Some(count + 1)
 }
 
-pub fn write_u8(out: &mut [u8], at: usize, x: u8) -> Length
-    ensures { text.Shows result.ok result.value out.old at (text.natural x) out.new }
+pub fn write<T: Unsigned>(out: &mut [u8], at: usize, x: T) -> Option<usize>
+    ensures { text.Shows (is_some result) (unwrap_or result 0) out.old at (text.natural (T.whole x)) out.new }
 {
-    write_u64(out, at, x as u64)
+    write_u64(out, at, x.to_u64())
 }
 
-pub fn write_i8(out: &mut [u8], at: usize, x: i8) -> Length
-    ensures { text.Shows result.ok result.value out.old at (text.whole x) out.new }
+pub fn write_signed<T: Signed>(out: &mut [u8], at: usize, x: T) -> Option<usize>
+    ensures { text.Shows (is_some result) (unwrap_or result 0) out.old at (text.whole (T.whole x)) out.new }
 {
-    write_with_sign(out, at, x < 0, signed8_order::magnitude(x) as u64)
-}
-
-pub fn write_u16(out: &mut [u8], at: usize, x: u16) -> Length
-    ensures { text.Shows result.ok result.value out.old at (text.natural x) out.new }
-{
-    write_u64(out, at, x as u64)
-}
-
-pub fn write_i16(out: &mut [u8], at: usize, x: i16) -> Length
-    ensures { text.Shows result.ok result.value out.old at (text.whole x) out.new }
-{
-    write_with_sign(out, at, x < 0, signed16_order::magnitude(x) as u64)
-}
-
-pub fn write_u32(out: &mut [u8], at: usize, x: u32) -> Length
-    ensures { text.Shows result.ok result.value out.old at (text.natural x) out.new }
-{
-    write_u64(out, at, x as u64)
-}
-
-pub fn write_i32(out: &mut [u8], at: usize, x: i32) -> Length
-    ensures { text.Shows result.ok result.value out.old at (text.whole x) out.new }
-{
-    write_with_sign(out, at, x < 0, signed32_order::magnitude(x) as u64)
-}
-
-pub fn write_i64(out: &mut [u8], at: usize, x: i64) -> Length
-    ensures { text.Shows result.ok result.value out.old at (text.whole x) out.new }
-{
-    write_with_sign(out, at, x < 0, signed64_order::magnitude(x) as u64)
-}
-
-pub fn write_usize(out: &mut [u8], at: usize, x: usize) -> Length
-    ensures { text.Shows result.ok result.value out.old at (text.natural x) out.new }
-{
-    write_u64(out, at, x as u64)
-}
-
-pub fn write_isize(out: &mut [u8], at: usize, x: isize) -> Length
-    ensures { text.Shows result.ok result.value out.old at (text.whole x) out.new }
-{
-    write_with_sign(out, at, x < 0, signed_size_order::magnitude(x) as u64)
+    write_with_sign(out, at, x < T::ZERO, magnitude(x).to_u64())
 }

@@ -16,5 +16,5 @@ returns-then-n-lt100 c = places_are 10 base 1 _ (omega arith) c.if-n-lt100.true
 pub returns-then-n-lt1000 : goal.returns-then-n-lt1000
 returns-then-n-lt1000 c = places_are 10 base 2 _ (omega arith) c.if-n-lt1000.true
 
-pub returns : goal.returns
-returns c = places_are 10 base 3 _ (omega arith) (omega arith)
+pub returns-else-n-lt1000 : goal.returns-else-n-lt1000
+returns-else-n-lt1000 c = places_are 10 base 3 _ (omega arith) (omega arith)

@@ -1,8 +1,0 @@
-use mir.Syntax.{w64}
-use mir.Facts.{to_z-of_z}
-use Rattle.theory_decimal.proofs.Showing.{shown_by_sign}
-use Rattle.decimal_write.proofs.write_isize.Goals as goal
-
-pub returns : goal.returns
-returns c =
-    shown_by_sign _ _ _ _ (to_z-of_z {w = w64} c.ranges.x) c.magnitude.ensures c.write_with_sign.ensures

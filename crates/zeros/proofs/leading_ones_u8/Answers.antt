@@ -1,6 +1,0 @@
-use mathlib.Core.Path.{sym, ◌∙◌}
-use Rattle.theory_digits.proofs.Ends.{leading_ones}
-use Rattle.zeros.proofs.leading_ones_u8.Goals as goal
-
-pub returns : goal.returns
-returns c = c.leading_zeros_u8.ensures ∙ sym (leading_ones 8 c.ranges.x.fits)
