@@ -12,10 +12,11 @@ fn copy_block(d: &mut [u8], at: usize, s: &[u8])
 {
     let n = s.len();
     let end = at + n;
-    let bytes = slices_mut::held(&s[..]);
+    let bytes = slices_mut::held(s);
     slices_mut::put(d, at, end, &bytes[..n]);
 }
 
+// By blocks of `size` bytes; chunks_exact would copy the last twice where it is a whole one.
 fn copy_by(d: &mut [u8], at: usize, s: &[u8], size: usize)
     requires { (0 < size) × (size ≤ 64) × (size ≤ length s.now) × (at + length s.now ≤ length d.old) }
     ensures { d.new ≡ written d.old at s.now }
@@ -37,11 +38,11 @@ fn copy_long(d: &mut [u8], at: usize, s: &[u8])
 {
     let n = s.len();
     if 64 <= n {
-        copy_by(d, at, &s[..], 64);
+        copy_by(d, at, s, 64);
     } else if 16 <= n {
-        copy_by(d, at, &s[..], 16);
+        copy_by(d, at, s, 16);
     } else {
-        copy_by(d, at, &s[..], 8);
+        copy_by(d, at, s, 8);
     }
 }
 
@@ -50,19 +51,14 @@ pub fn copy_from(s: &mut [u8], from: usize, to: usize, other: &[u8]) -> bool
     ensures { Outcome result (Within from to s.old × (length other.now ≡ to - from))
         (s.new ≡ written s.old from other.now) (s.new ≡ s.old) }
 {
-    let n = other.len();
-    if n < 8 {
-        return slices_mut::put(s, from, to, &other[..]);
+    if other.len() < 8 {
+        return slices_mut::put(s, from, to, other);
     }
-    if to < from {
-        return false;
+    match s.get(from..to) {
+        Some(part) if part.len() == other.len() => {
+            copy_long(s, from, other);
+            true
+        }
+        _ => false,
     }
-    if s.len() < to {
-        return false;
-    }
-    if n != to - from {
-        return false;
-    }
-    copy_long(s, from, &other[..]);
-    true
 }

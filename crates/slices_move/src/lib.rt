@@ -17,6 +17,8 @@ fn move_block(d: &mut [u8], from: usize, to: usize, at: usize)
     slices_mut::put(d, at, end, &bytes[..n]);
 }
 
+// The loops go by places, since they read and write one slice.
+
 // From the front, for a place that is not behind: what is still to be read is not written yet.
 fn move_from_front(d: &mut [u8], from: usize, to: usize, at: usize, size: usize)
     requires { Within from to d.old × (at ≤ from) × (0 < size) × (size ≤ 64) × (size ≤ to - from) }
@@ -96,13 +98,10 @@ pub fn copy_within(s: &mut [u8], from: usize, to: usize, at: usize) -> bool
     ensures { Outcome result (Within from to s.old × (at + (to - from) ≤ length s.old))
         (s.new ≡ written s.old at (part from to s.old)) (s.new ≡ s.old) }
 {
-    if to < from {
+    let Some(part) = s.get(from..to) else {
         return false;
-    }
-    if s.len() < to {
-        return false;
-    }
-    let n = to - from;
+    };
+    let n = part.len();
     if s.len() - n < at {
         return false;
     }
@@ -111,8 +110,8 @@ pub fn copy_within(s: &mut [u8], from: usize, to: usize, at: usize) -> bool
     }
     if at <= from {
         move_towards_front(s, from, to, at);
-        return true;
+    } else {
+        move_towards_back(s, from, to, at);
     }
-    move_towards_back(s, from, to, at);
     true
 }
