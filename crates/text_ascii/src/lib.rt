@@ -11,10 +11,8 @@ fn all(s: &[u8]) -> bool
     ensures { Says result (Ascii s.now) }
 {
     let mut all = true;
-    let mut i = 0;
-    while i < s.len() {
-        all = all & (s[i] < 0x80);
-        i += 1;
+    for byte in s {
+        all &= *byte < 0x80;
     }
     all
 }
@@ -24,60 +22,46 @@ fn all_by(s: &[u8], size: usize) -> bool
     requires { (0 < size) × (size ≤ length s.now) }
     ensures { Says result (Ascii s.now) }
 {
-    let last = s.len() - size;
-    let mut i = 0;
-    while i < last {
-        let next = i + size;
-        if !all(&s[i..next]) {
+    // The last byte is left to the last block, so that no block is looked at twice.
+    for block in s[..s.len() - 1].chunks_exact(size) {
+        if !all(block) {
             return false;
         }
-        i = next;
     }
-    all(&s[last..])
+    all(&s[s.len() - size..])
 }
 
 pub fn is_ascii(s: &[u8]) -> bool
     ensures { Says result (Ascii s.now) }
 {
-    let n = s.len();
-    if 64 <= n {
-        return all_by(&s[..], 64);
+    match s.len() {
+        0..8 => all(s),
+        8..16 => all_by(s, 8),
+        16..64 => all_by(s, 16),
+        _ => all_by(s, 64),
     }
-    if 16 <= n {
-        return all_by(&s[..], 16);
-    }
-    if 8 <= n {
-        return all_by(&s[..], 8);
-    }
-    all(&s[..])
 }
 
 // True only where `size` bytes from a place on are there and ASCII.
 pub fn ascii_block(s: &[u8], from: usize, size: usize) -> bool
     ensures { result ≡ true → (from + size ≤ length s.now) × Ascii (part from (from + size) s.now) }
 {
-    if s.len() < size {
-        return false;
+    match s.get(from..).and_then(|rest| rest.get(..size)) {
+        Some(block) => all(block),
+        None => false,
     }
-    if s.len() - size < from {
-        return false;
-    }
-    let to = from + size;
-    all(&s[from..to])
 }
 
 // The first place from `from` on where no ASCII stands, or the end.
 pub fn ascii_from(s: &[u8], from: usize) -> usize
     ensures { AsciiRun s.now from result }
 {
+    // By index, since a place is answered, also one past the end.
     let mut i = from;
     while ascii_block(s, i, 64) {
         i += 64;
     }
-    while i < s.len() {
-        if 0x80 <= s[i] {
-            return i;
-        }
+    while i < s.len() && s[i] < 0x80 {
         i += 1;
     }
     i

@@ -18,15 +18,13 @@ fn next(t: &[u64; 256], b: u8, x: u64) -> u64
     t[b as usize] >> (x % 64)
 }
 
-fn bytes(t: &[u64; 256], s: &[u8], from: usize, to: usize, x: u64) -> u64
-    requires { (t.now ≡ table) × (Good x × ((from ≤ to) × (to ≤ length s.now))) }
-    ensures { Moves s.now from (to - from) x result }
+fn bytes(t: &[u64; 256], s: &[u8], x: u64) -> u64
+    requires { (t.now ≡ table) × Good x }
+    ensures { Moves s.now 0 (length s.now) x result }
 {
     let mut y = x;
-    let mut i = from;
-    while i < to {
-        y = next(t, s[i], y);
-        i += 1;
+    for byte in s {
+        y = next(t, *byte, y);
     }
     y
 }
@@ -35,12 +33,10 @@ fn quarter(t: &[u64; 256], s: &[u8], from: usize, x: u64) -> u64
     requires { (t.now ≡ table) × (Good x × (from + 16 ≤ length s.now)) }
     ensures { Moves s.now from 16 x result }
 {
-    if x % 64 == 0 {
-        if text_ascii::ascii_block(s, from, 16) {
-            return 0;
-        }
+    if x % 64 == 0 && text_ascii::ascii_block(s, from, 16) {
+        return 0;
     }
-    bytes(t, s, from, from + 16, x)
+    bytes(t, &s[from..from + 16], x)
 }
 
 // Where a block is not all ASCII, only the quarters that are not go byte by byte.
@@ -48,10 +44,8 @@ fn block(t: &[u64; 256], s: &[u8], from: usize, x: u64) -> u64
     requires { (t.now ≡ table) × (Good x × (from + 64 ≤ length s.now)) }
     ensures { Moves s.now from 64 x result }
 {
-    if x % 64 == 0 {
-        if text_ascii::ascii_block(s, from, 64) {
-            return 0;
-        }
+    if x % 64 == 0 && text_ascii::ascii_block(s, from, 64) {
+        return 0;
     }
     let x1 = quarter(t, s, from, x);
     let x2 = quarter(t, s, from + 16, x1);
@@ -63,10 +57,7 @@ fn block(t: &[u64; 256], s: &[u8], from: usize, x: u64) -> u64
 fn later(x: u64, next: usize, place: usize) -> usize
     ensures { result ≡ cond (eqb (x % 64) 0) next place }
 {
-    if x % 64 == 0 {
-        return next;
-    }
-    place
+    if x % 64 == 0 { next } else { place }
 }
 
 // A place from which on s is left to read: the end, where all of it is text.
@@ -74,9 +65,10 @@ pub fn text_before(s: &[u8]) -> usize
     ensures { ReadFrom s.now result }
 {
     let t = SHIFT;
-    let mut x: u64 = 0;
-    let mut i: usize = 0;
-    let mut place: usize = 0;
+    let mut x = 0;
+    let mut i = 0;
+    let mut place = 0;
+    // By index, since a place is answered.
     while 64 <= s.len() - i {
         x = block(&t, s, i, x);
         i += 64;
@@ -85,6 +77,6 @@ pub fn text_before(s: &[u8]) -> usize
             return place;
         }
     }
-    x = bytes(&t, s, i, s.len(), x);
+    x = bytes(&t, &s[i..], x);
     later(x, s.len(), place)
 }

@@ -1,2 +1,4 @@
-pub mod Tested
+pub mod Rows
+pub mod Padding
 pub mod Backwards
+pub mod Answered

@@ -1,224 +1,96 @@
 // Reading one scalar: the first of a part of a slice, or the last.
 #![tactic(auto)]
 
-ghost use Rattle.std.specs.Prelude.{◌≡◌, ◌+◌, ◌≤◌, ◌<◌, length, get_or, drop, [], ◌∷◌};
+ghost use Rattle.std.specs.Prelude.{◌≡◌, ◌<◌, length, get_or, drop, SomeIff, [], ◌∷◌};
 ghost use Rattle.theory_lists.specs.Part.{part, Within};
-ghost use Rattle.theory_text.specs.Text.{Begins, Ends, ReadIs};
+ghost use Rattle.theory_text.specs.Text.{Begins, Ends};
 ghost use Rattle.theory_text.specs.Table.{first};
-ghost use Rattle.theory_text.specs.Reading.{value_of, decoded};
+ghost use Rattle.theory_text.specs.Reading.{decoded};
 ghost use Rattle.theory_text.specs.Boundary.{Back};
-ghost use Rattle.text_read.specs.Asked.{Leads};
+ghost use Rattle.text_read.specs.Reads.{Reads};
 
-// A scalar and how many bytes its form has, or refused: then both are 0.
-#[repr(C)]
+// A scalar and how many bytes its form has.
 #[derive(Clone, Copy)]
 pub struct Read {
-    pub ok: bool,
     pub value: u32,
     pub length: usize,
 }
 
-#[derive(Clone, Copy)]
-struct Lead {
-    bytes: usize,
-    low: u8,
-    high: u8,
-}
-
-// The row of the table that a first byte chooses.
-fn row_of(b: u8) -> Lead
-    ensures { Leads b result.bytes result.low result.high }
+// How many bytes the form has that the four begin with: the nine rows of the Unicode Standard's table 3-7.
+#[tactic(auto, using(crate::proofs::Rows::rows))]
+fn length_of(bytes: [u8; 4]) -> Option<usize>
+    ensures { SomeIff result (0 < first bytes) (first bytes) }
 {
-    if b < 0x80 {
-        return Lead {
-            bytes: 1,
-            low: 0,
-            high: 0,
-        };
+    match bytes {
+        [0..=0x7f, ..] => Some(1),
+        [0xc2..=0xdf, 0x80..=0xbf, ..] => Some(2),
+        [0xe0, 0xa0..=0xbf, 0x80..=0xbf, _] => Some(3),
+        [0xe1..=0xec | 0xee..=0xef, 0x80..=0xbf, 0x80..=0xbf, _] => Some(3),
+        [0xed, 0x80..=0x9f, 0x80..=0xbf, _] => Some(3),
+        [0xf0, 0x90..=0xbf, 0x80..=0xbf, 0x80..=0xbf] => Some(4),
+        [0xf1..=0xf3, 0x80..=0xbf, 0x80..=0xbf, 0x80..=0xbf] => Some(4),
+        [0xf4, 0x80..=0x8f, 0x80..=0xbf, 0x80..=0xbf] => Some(4),
+        _ => None,
     }
-    if b < 0xc2 {
-        return Lead {
-            bytes: 0,
-            low: 0,
-            high: 0,
-        };
-    }
-    if b < 0xe0 {
-        return Lead {
-            bytes: 2,
-            low: 0x80,
-            high: 0xbf,
-        };
-    }
-    if b == 0xe0 {
-        return Lead {
-            bytes: 3,
-            low: 0xa0,
-            high: 0xbf,
-        };
-    }
-    if b < 0xed {
-        return Lead {
-            bytes: 3,
-            low: 0x80,
-            high: 0xbf,
-        };
-    }
-    if b == 0xed {
-        return Lead {
-            bytes: 3,
-            low: 0x80,
-            high: 0x9f,
-        };
-    }
-    if b < 0xf0 {
-        return Lead {
-            bytes: 3,
-            low: 0x80,
-            high: 0xbf,
-        };
-    }
-    if b == 0xf0 {
-        return Lead {
-            bytes: 4,
-            low: 0x90,
-            high: 0xbf,
-        };
-    }
-    if b < 0xf4 {
-        return Lead {
-            bytes: 4,
-            low: 0x80,
-            high: 0xbf,
-        };
-    }
-    if b == 0xf4 {
-        return Lead {
-            bytes: 4,
-            low: 0x80,
-            high: 0x8f,
-        };
-    }
-    Lead {
-        bytes: 0,
-        low: 0,
-        high: 0,
-    }
-}
-
-// How many bytes the form has that the four begin with; 0 where they begin with none.
-fn first_of(b0: u8, b1: u8, b2: u8, b3: u8) -> usize
-    ensures { result ≡ first (b0 ∷ b1 ∷ b2 ∷ b3 ∷ []) }
-{
-    let row = row_of(b0);
-    let n = row.bytes;
-    if n < 2 {
-        return n;
-    }
-    if b1 < row.low {
-        return 0;
-    }
-    if row.high < b1 {
-        return 0;
-    }
-    if n == 2 {
-        return 2;
-    }
-    if b2 / 64 != 2 {
-        return 0;
-    }
-    if n == 3 {
-        return 3;
-    }
-    if b3 / 64 != 2 {
-        return 0;
-    }
-    4
 }
 
 // The value of the first n of the four.
-fn value_of(n: usize, b0: u8, b1: u8, b2: u8, b3: u8) -> u32
-    ensures { result ≡ value_of n b0 b1 b2 b3 }
+fn value_of(n: usize, bytes: [u8; 4]) -> u32
+    ensures { result ≡ decoded n bytes }
 {
-    if n == 0 {
-        return 0;
+    let b0 = u32::from(bytes[0]);
+    let b1 = u32::from(bytes[1]);
+    let b2 = u32::from(bytes[2]);
+    let b3 = u32::from(bytes[3]);
+    match n {
+        0 => 0,
+        1 => b0,
+        2 => b0 % 32 * 64 + b1 % 64,
+        3 => (b0 % 16 * 64 + b1 % 64) * 64 + b2 % 64,
+        _ => ((b0 % 8 * 64 + b1 % 64) * 64 + b2 % 64) * 64 + b3 % 64,
     }
-    if n == 1 {
-        return b0 as u32;
-    }
-    let x = (b1 % 64) as u32;
-    if n == 2 {
-        return (b0 % 32) as u32 * 64 + x;
-    }
-    let y = (b2 % 64) as u32;
-    if n == 3 {
-        return ((b0 % 16) as u32 * 64 + x) * 64 + y;
-    }
-    let z = (b3 % 64) as u32;
-    (((b0 % 8) as u32 * 64 + x) * 64 + y) * 64 + z
 }
 
 // The byte at a place, and 0 past the end.
 fn byte_at(s: &[u8], at: usize) -> u8
     ensures { result ≡ get_or s.now at 0 }
 {
-    if at < s.len() { s[at] } else { 0 }
+    s.get(at).copied().unwrap_or(0)
 }
 
-// How many bytes the form has that begins at a place; 0 where none does.
-pub fn first_at(s: &[u8], at: usize) -> usize
-    ensures { result ≡ first (drop at s.now) }
+// The first four bytes, where those past the end are 0; none of no bytes.
+fn four(s: &[u8]) -> Option<[u8; 4]>
+    ensures { SomeIff result (0 < length s.now) (get_or s.now 0 0 ∷ get_or s.now 1 0 ∷ get_or s.now 2 0 ∷ get_or s.now 3 0 ∷ []) }
 {
-    if s.len() <= at {
-        return 0;
+    if s.is_empty() {
+        return None;
     }
-    first_of(
-        s[at],
-        byte_at(s, at + 1),
-        byte_at(s, at + 2),
-        byte_at(s, at + 3),
-    )
+    Some([byte_at(s, 0), byte_at(s, 1), byte_at(s, 2), byte_at(s, 3)])
 }
 
-// The value of the n bytes at a place.
-fn value_at(s: &[u8], at: usize, n: usize) -> u32
-    requires { at < length s.now }
-    ensures { result ≡ decoded n (drop at s.now) }
+// How many bytes the form has that begins at a place.
+pub fn first_at(s: &[u8], at: usize) -> Option<usize>
+    ensures { SomeIff result (0 < first (drop at s.now)) (first (drop at s.now)) }
 {
-    value_of(
-        n,
-        s[at],
-        byte_at(s, at + 1),
-        byte_at(s, at + 2),
-        byte_at(s, at + 3),
-    )
+    length_of(four(s.get(at..)?)?)
 }
 
-fn front(s: &[u8]) -> Read
-    ensures { ReadIs (λ c. Begins c s.now) result.ok result.value result.length }
+fn front(s: &[u8]) -> Option<Read>
+    ensures { Reads (λ c. Begins c s.now) result }
 {
-    if 0 < s.len() {
-        if s[0] < 0x80 {
-            return Read {
-                ok: true,
-                value: s[0] as u32,
-                length: 1,
-            };
-        }
+    // Most of what is read is ASCII: its other bytes are not looked at.
+    if 0 < s.len() && s[0] < 0x80 {
+        return Some(Read {
+            value: u32::from(s[0]),
+            length: 1,
+        });
     }
-    let n = first_at(s, 0);
-    if n == 0 {
-        return Read {
-            ok: false,
-            value: 0,
-            length: 0,
-        };
-    }
-    Read {
-        ok: true,
-        value: value_at(s, 0, n),
-        length: n,
-    }
+    let bytes = four(s)?;
+    let length = length_of(bytes)?;
+    Some(Read {
+        value: value_of(length, bytes),
+        length,
+    })
 }
 
 // How far to go back from the end to a byte that is no 10xxxxxx, at most four.
@@ -226,83 +98,41 @@ fn back(s: &[u8]) -> usize
     requires { 0 < length s.now }
     ensures { Back s.now result }
 {
-    let mut k: usize = 1;
-    while k < 4 {
-        if k == s.len() {
+    for k in 1..4 {
+        if k == s.len() || s[s.len() - k] / 64 != 2 {
             return k;
         }
-        if s[s.len() - k] / 64 != 2 {
-            return k;
-        }
-        k += 1;
     }
-    k
+    4
 }
 
-fn end(s: &[u8]) -> Read
-    ensures { ReadIs (λ c. Ends c s.now) result.ok result.value result.length }
+fn end(s: &[u8]) -> Option<Read>
+    ensures { Reads (λ c. Ends c s.now) result }
 {
-    if s.len() == 0 {
-        return Read {
-            ok: false,
-            value: 0,
-            length: 0,
-        };
+    if s.is_empty() {
+        return None;
     }
-    let k = back(s);
-    let at = s.len() - k;
-    if first_at(s, at) != k {
-        return Read {
-            ok: false,
-            value: 0,
-            length: 0,
-        };
+    let length = back(s);
+    let bytes = four(&s[s.len() - length..])?;
+    if length_of(bytes)? != length {
+        return None;
     }
-    Read {
-        ok: true,
-        value: value_at(s, at, k),
-        length: k,
-    }
+    Some(Read {
+        value: value_of(length, bytes),
+        length,
+    })
 }
 
 // The first scalar of s[from..to]. Refused: no such part, or no scalar's form begins there.
-pub fn read_first(s: &[u8], from: usize, to: usize) -> Read
-    ensures { ReadIs (λ c. Within from to s.now × Begins c (part from to s.now)) result.ok result.value result.length }
+pub fn read_first(s: &[u8], from: usize, to: usize) -> Option<Read>
+    ensures { Reads (λ c. Within from to s.now × Begins c (part from to s.now)) result }
 {
-    if to < from {
-        return Read {
-            ok: false,
-            value: 0,
-            length: 0,
-        };
-    }
-    if s.len() < to {
-        return Read {
-            ok: false,
-            value: 0,
-            length: 0,
-        };
-    }
-    front(&s[from..to])
+    front(s.get(from..to)?)
 }
 
 // The last scalar of s[from..to]. Refused: no such part, or no scalar's form ends there.
-pub fn read_last(s: &[u8], from: usize, to: usize) -> Read
-    ensures { ReadIs (λ c. Within from to s.now × Ends c (part from to s.now)) result.ok result.value result.length }
+pub fn read_last(s: &[u8], from: usize, to: usize) -> Option<Read>
+    ensures { Reads (λ c. Within from to s.now × Ends c (part from to s.now)) result }
 {
-    if to < from {
-        return Read {
-            ok: false,
-            value: 0,
-            length: 0,
-        };
-    }
-    if s.len() < to {
-        return Read {
-            ok: false,
-            value: 0,
-            length: 0,
-        };
-    }
-    end(&s[from..to])
+    end(s.get(from..to)?)
 }

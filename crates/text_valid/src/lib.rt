@@ -1,48 +1,25 @@
 // Text as a whole: how far it is valid, how many scalars it has, where it may be split. What is no text is refused.
 #![tactic(auto)]
 
-ghost use Rattle.std.specs.Prelude.{◌≡◌, true, false, cond, ◌+◌, ◌≤◌, ◌<◌, length, drop};
-ghost use Rattle.theory_answers.specs.Says.{Says, Outcome};
+ghost use Rattle.std.specs.Prelude.{◌≡◌, ◌≤◌, ◌<◌, cond, length, SomeIff};
+ghost use Rattle.theory_answers.specs.Says.{Says, Tells};
 ghost use Rattle.theory_text.specs.Text.{Valid};
 ghost use Rattle.theory_text.specs.Reading.{scalars, valid_to, ReadFrom};
 ghost use Rattle.theory_text.specs.Scalar.{follows};
 ghost use Rattle.theory_text.specs.Boundary.{Boundary, Splits, started};
 ghost use Rattle.text_valid.specs.Onward.{Onward};
 
-// How many scalars, or refused: then 0.
-#[repr(C)]
-#[derive(Clone, Copy)]
-pub struct Counted {
-    pub ok: bool,
-    pub value: usize,
-}
-
-// The answer of a test, or refused: then false.
-#[repr(C)]
-#[derive(Clone, Copy)]
-pub struct Tested {
-    pub ok: bool,
-    pub value: bool,
-}
-
-// Both parts of a text: from 0 to `middle`, and from there to `end`; or refused: then both are 0.
-#[repr(C)]
-#[derive(Clone, Copy)]
-pub struct Split {
-    pub ok: bool,
-    pub middle: usize,
-    pub end: usize,
-}
+use std::ops::Range;
 
 // The next place to read from: past a run of ASCII, or past one scalar.
-fn next_place(s: &[u8], at: usize) -> usize
+fn next_place(s: &[u8], at: usize) -> Option<usize>
     requires { at < length s.now }
     ensures { Onward s.now at result }
 {
     if s[at] < 0x80 {
-        return text_ascii::ascii_from(s, at);
+        return Some(text_ascii::ascii_from(s, at));
     }
-    at + text_read::first_at(s, at)
+    Some(at + text_read::first_at(s, at)?)
 }
 
 // The plain form of `valid_up_to`: scalar by scalar, from a place up to which all was read.
@@ -50,12 +27,12 @@ fn walk_from(s: &[u8], from: usize) -> usize
     requires { ReadFrom s.now from }
     ensures { result ≡ valid_to s.now }
 {
+    // By index, since a place is answered.
     let mut at = from;
     while at < s.len() {
-        let next = next_place(s, at);
-        if next == at {
+        let Some(next) = next_place(s, at) else {
             return at;
-        }
+        };
         at = next;
     }
     at
@@ -77,29 +54,23 @@ pub fn valid_up_to(s: &[u8]) -> usize
 pub fn valid(s: &[u8]) -> bool
     ensures { Says result (Valid s.now) }
 {
-    if valid_up_to(s) == s.len() {
-        return true;
-    }
-    false
+    valid_up_to(s) == s.len()
 }
 
 fn start(b: u8) -> u8
     ensures { (result ≡ cond (follows b) 0 1) × (result ≤ 1) }
 {
-    if b / 64 == 2 { 0 } else { 1 }
+    u8::from(b / 64 != 2)
 }
 
-// How many of 192 bytes start a scalar: few enough for one byte to count.
-fn starts_192(s: &[u8], from: usize) -> u8
-    requires { from + 192 ≤ length s.now }
-    ensures { (result ≤ 192) × (started (drop from s.now) ≡ result + started (drop (from + 192) s.now)) }
+// How many of a block's bytes start a scalar: few enough for one byte to count.
+fn starts_in_block(block: &[u8]) -> u8
+    requires { length block.now ≤ 192 }
+    ensures { result ≡ started block.now }
 {
-    let end = from + 192;
     let mut n: u8 = 0;
-    let mut i = from;
-    while i < end {
-        n += start(s[i]);
-        i += 1;
+    for byte in block {
+        n += start(*byte);
     }
     n
 }
@@ -108,89 +79,38 @@ fn starts_in(s: &[u8]) -> usize
     ensures { result ≡ started s.now }
 {
     let mut n: usize = 0;
-    let mut i: usize = 0;
-    while 192 <= s.len() - i {
-        n += starts_192(s, i) as usize;
-        i += 192;
-    }
-    while i < s.len() {
-        n += start(s[i]) as usize;
-        i += 1;
+    for block in s.chunks(192) {
+        n += starts_in_block(block) as usize;
     }
     n
 }
 
-pub fn count(s: &[u8]) -> Counted
-    ensures { Outcome result.ok (Valid s.now) (result.value ≡ length (scalars s.now)) (result.value ≡ 0) }
+pub fn count(s: &[u8]) -> Option<usize>
+    ensures { SomeIff result (Valid s.now) (length (scalars s.now)) }
 {
-    if valid(s) {
-        return Counted {
-            ok: true,
-            value: starts_in(s),
-        };
-    }
-    Counted {
-        ok: false,
-        value: 0,
-    }
+    if valid(s) { Some(starts_in(s)) } else { None }
 }
 
 // Whether a place of a text is a boundary; past the end there is none.
-pub fn is_boundary(s: &[u8], at: usize) -> Tested
-    ensures { Outcome result.ok (Valid s.now) (Says result.value (Boundary s.now at)) (result.value ≡ false) }
+pub fn is_boundary(s: &[u8], at: usize) -> Option<bool>
+    ensures { Tells result (Valid s.now) (Boundary s.now at) }
 {
     if !valid(s) {
-        return Tested {
-            ok: false,
-            value: false,
-        };
+        return None;
     }
-    if s.len() < at {
-        return Tested {
-            ok: true,
-            value: false,
-        };
-    }
-    if at == s.len() {
-        return Tested {
-            ok: true,
-            value: true,
-        };
-    }
-    if s[at] / 64 == 2 {
-        return Tested {
-            ok: true,
-            value: false,
-        };
-    }
-    Tested {
-        ok: true,
-        value: true,
+    match s.get(at) {
+        Some(byte) => Some(*byte / 64 != 2),
+        None => Some(at == s.len()),
     }
 }
 
-// Splits a text at a boundary. Refused: no text, past the end, or inside a scalar.
-pub fn split_at(s: &[u8], at: usize) -> Split
-    ensures { Outcome result.ok (Splits s.now at) ((result.middle ≡ at) × (result.end ≡ length s.now)) ((result.middle ≡ 0) × (result.end ≡ 0)) }
+// Both parts of a text, split at a boundary. Refused: no text, past the end, or inside a scalar.
+pub fn split_at(s: &[u8], at: usize) -> Option<(Range<usize>, Range<usize>)>
+    ensures { SomeIff result (Splits s.now at) (record { start = 0; end = at }, record { start = at; end = length s.now }) }
 {
-    let b = is_boundary(s, at);
-    if !b.ok {
-        return Split {
-            ok: false,
-            middle: 0,
-            end: 0,
-        };
-    }
-    if b.value {
-        return Split {
-            ok: true,
-            middle: at,
-            end: s.len(),
-        };
-    }
-    Split {
-        ok: false,
-        middle: 0,
-        end: 0,
+    if is_boundary(s, at)? {
+        Some((0..at, at..s.len()))
+    } else {
+        None
     }
 }

@@ -1,11 +1,6 @@
-use Prim.Native.Nat.{◌-◌, ◌≤◌}
-use lib.ListN.{length}
 use Rattle.theory_answers.specs.Says.{Says}
 use Rattle.theory_lists.specs.Search.{All, holds_at, below}
 use Rattle.text_ascii.proofs.all.Given as goal
 
-abbrev pub invariant-loop-i : goal.invariant-loop-i
-invariant-loop-i l = (l.i ≤ length l.s) × Says l.all (All (holds_at (below 0x80) l.s) 0 l.i)
-
-abbrev pub decreases-loop-i : goal.decreases-loop-i
-decreases-loop-i l = length l.s - l.i
+abbrev pub invariant-loop-byte : goal.invariant-loop-byte
+invariant-loop-byte l = Says l.all (All (holds_at (below 0x80) l.s) 0 l.byte-index)

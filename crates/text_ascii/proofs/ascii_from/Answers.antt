@@ -30,19 +30,19 @@ loop-i-preserved c =
 pub loop-i-2-init : goal.loop-i-2-init
 loop-i-2-init c = c.loop-i.invariant
 
-pub returns-then-s-i-ge128 : goal.returns-then-s-i-ge128
-returns-then-s-i-ge128 c =
-    let v = c.loop-i-2.invariant in
-    record { ordered = v.0.0; inside = v.0.1; ascii = all_is_below 0x80 _ _ _ v.1; stops = λ h. c.if-s-i-ge128.true }
-
 pub loop-i-2-preserved : goal.loop-i-2-preserved
 loop-i-2-preserved c =
     let v = c.loop-i-2 in
     let s = c.args.s.now in
-    let next = each_one true (holds_at (below 0x80) s) v.i (lt-ltb (get_or s v.i 0) 0x80 c.if-s-i-ge128.false) in
+    let next = each_one true (holds_at (below 0x80) s) v.i (lt-ltb (get_or s v.i 0) 0x80 c.if-s-i-lt128.true) in
     ((omega arith, λ h. omega arith), each_join true _ _ v.i (v.i + 1) v.invariant.1 next)
 
-pub returns : goal.returns
-returns c =
+pub returns-else-s-i-lt128 : goal.returns-else-s-i-lt128
+returns-else-s-i-lt128 c =
+    let v = c.loop-i-2.invariant in
+    record { ordered = v.0.0; inside = v.0.1; ascii = all_is_below 0x80 _ _ _ v.1; stops = λ h. c.if-s-i-lt128.false }
+
+pub returns-after-loop-i-2 : goal.returns-after-loop-i-2
+returns-after-loop-i-2 c =
     let v = c.loop-i-2.invariant in
     record { ordered = v.0.0; inside = v.0.1; ascii = all_is_below 0x80 _ _ _ v.1; stops = λ h. absurd (omega arith) }

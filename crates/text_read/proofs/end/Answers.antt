@@ -1,12 +1,38 @@
-use mathlib.Core.Path.{sym, ◌∙◌}
-use Rattle.theory_text.proofs.ReadIs.{end_empty, end_none, end_some}
+use mathlib.Core.List.{List}
+use Prim.Native.Nat.{ℕ, ◌-◌}
+use lib.ListN.{length, take, drop, length-drop}
+use lib.Seq.{take_all}
+use mathlib.Core.Path.{◌≡◌, sym, ◌∙◌}
+use borrow.Author.Tests.{eqb-true}
+use Rattle.theory_text.proofs.ReadIs.{end_none, end_some, end_empty}
+use Rattle.text_read.proofs.Padding.{four_first, four_decoded}
+use native.Mathlib.Omega.{arith}
 use Rattle.text_read.proofs.end.Goals as goal
 
-pub returns-then-s-eq0 : goal.returns-then-s-eq0
-returns-then-s-eq0 c = end_empty _ c.if-s-eq0.true
+-- the last k elements, as the code takes them
+last : (s : List ℕ) (k : ℕ) → take (length s - (length s - k)) (drop (length s - k) s) ≡ drop (length s - k) s
+last s k = take_all (length s - (length s - k)) (drop (length s - k) s) (omega (arith, length-drop (length s - k) s))
 
-pub returns-then-first_at-k : goal.returns-then-first_at-k
-returns-then-first_at-k c = end_none _ _ c.back-k.ensures (λ e. c.if-first_at-k.true (c.first_at.ensures ∙ e))
+pub returns-then-is_empty : goal.returns-then-is_empty
+returns-then-is_empty c = let s = c.args.s.now in end_empty s (eqb-true (length s) 0 (sym c.is_empty.ensures ∙ c.if-is_empty.true))
+
+pub returns-in_err-length_of : goal.returns-in_err-length_of
+returns-in_err-length_of c =
+    let s = c.args.s.now in
+    let b = c.back-length in
+    let e = four_first _ _ (rw (last s b.result) at c.in_ok-bytes.ensures) in
+    rw c.from_residual-in_err-length_of.ensures (end_none s b.result b.ensures (λ q. omega (arith, b.ensures.some, c.in_err-length_of.ensures, e, q)))
+
+pub returns-then-branch-length : goal.returns-then-branch-length
+returns-then-branch-length c =
+    let s = c.args.s.now in
+    let b = c.back-length in
+    let e = four_first _ _ (rw (last s b.result) at c.in_ok-bytes.ensures) in
+    end_none s b.result b.ensures (λ q. c.if-branch-length.true (c.in_ok-length_of.ensures.1 ∙ e ∙ q))
 
 pub returns : goal.returns
-returns c = end_some _ _ c.back-k.ensures _ (sym c.first_at.ensures ∙ c.if-first_at-k.false) c.value_at.ensures
+returns c =
+    let s = c.args.s.now in
+    let b = c.back-length in
+    let f = rw (last s b.result) at c.in_ok-bytes.ensures in
+    end_some s b.result b.ensures _ (sym (c.in_ok-length_of.ensures.1 ∙ four_first _ _ f) ∙ c.if-branch-length.false) (c.value_of.ensures ∙ four_decoded _ _ f b.result)

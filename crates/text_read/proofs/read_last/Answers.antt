@@ -1,12 +1,12 @@
-use Rattle.theory_text.proofs.ReadIs.{read_none, within_read}
-use native.Mathlib.Omega.{arith}
+use mathlib.Core.Path.{subst}
+use mathlib.Core.List.{List}
+use Prim.Native.Nat.{ℕ}
+use Rattle.theory_text.specs.Text.{Ends}
+use Rattle.text_read.specs.Reads.{Reads}
+use Rattle.text_read.proofs.Answered.{within_reads}
 use Rattle.text_read.proofs.read_last.Goals as goal
 
-pub returns-then-to-from : goal.returns-then-to-from
-returns-then-to-from c = read_none _ (λ x p. omega (arith, p.0.ordered))
-
-pub returns-then-s-to : goal.returns-then-s-to
-returns-then-s-to c = read_none _ (λ x p. omega (arith, p.0.ends))
-
 pub returns : goal.returns
-returns c = within_read _ _ c.end.result.ok (record { ordered = omega arith; ends = omega arith }) c.end.ensures
+returns c =
+    let part = c.in_ok-get.ensures.lookup.0 in
+    within_reads _ c.end.result (record { ordered = part.0; ends = part.1 }) (subst (λ (l : List ℕ). Reads (λ c. Ends c l) c.end.result) part.2 c.end.ensures)

@@ -1,19 +1,13 @@
 use mathlib.Core.Path.{refl}
-use borrow.Author.Tests.{not-true, not-false}
-use Rattle.text_valid.proofs.Border.{splits_told, no_text_told, no_border_told}
+use Rattle.theory_answers.proofs.Says.{says_true, says_false}
+use Rattle.theory_text.proofs.Boundaries.{boundary_splits, splits_boundary, splits_valid}
 use Rattle.text_valid.proofs.split_at.Goals as goal
 
-pub returns-then-not-b : goal.returns-then-not-b
-returns-then-not-b c =
-    let b = c.is_boundary-b in
-    record { asked = no_text_told _ _ b.result.ok b.result.value b.ensures (not-true b.result.ok c.if-not-b.true); given = (refl, refl) }
+pub returns-in_err-is_boundary : goal.returns-in_err-is_boundary
+returns-in_err-is_boundary c = rw c.from_residual.ensures (λ p. c.in_err-is_boundary.ensures (splits_valid _ _ p))
 
-pub returns-then-b : goal.returns-then-b
-returns-then-b c =
-    let b = c.is_boundary-b in
-    record { asked = splits_told _ _ b.result.ok b.result.value b.ensures (not-false b.result.ok c.if-not-b.false) c.if-b.true; given = (refl, refl) }
+pub returns-then-branch : goal.returns-then-branch
+returns-then-branch c = let t = c.in_ok-is_boundary.ensures in (boundary_splits _ t.0 _ (says_true t.1 c.if-branch.true), refl)
 
-pub returns : goal.returns
-returns c =
-    let b = c.is_boundary-b in
-    record { asked = no_border_told _ _ b.result.ok b.result.value b.ensures (not-false b.result.ok c.if-not-b.false) c.if-b.false; given = (refl, refl) }
+pub returns-else-branch : goal.returns-else-branch
+returns-else-branch c = let t = c.in_ok-is_boundary.ensures in λ p. says_false t.1 c.if-branch.false (splits_boundary _ _ p)
