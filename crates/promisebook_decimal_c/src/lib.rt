@@ -10,28 +10,28 @@ ghost use Rattle.theory_decimal.specs.Read as said;
 // ---- 8 bits
 
 #[unsafe(no_mangle)]
-pub extern "C" fn pb_u8_read_decimal(s: &[u8], from: usize, to: usize) -> unsigned8_sums::Checked
+pub extern "C" fn pb_u8_read_decimal(s: &[u8], from: usize, to: usize) -> answers::AnswerU8
     ensures { Answers result.ok (pos result.value) (said.natural_in (unsigned 8) from to s.now) }
 {
     promisebook_decimal::pb_u8_read_decimal(s, from, to)
 }
 
 #[unsafe(no_mangle)]
-pub extern "C" fn pb_u8_write_decimal(x: u8, s: &mut [u8], at: usize) -> decimal_write::Length
+pub extern "C" fn pb_u8_write_decimal(x: u8, s: &mut [u8], at: usize) -> answers::AnswerUsize
     ensures { text.Shows result.ok result.value s.old at (text.natural x) s.new }
 {
     promisebook_decimal::pb_u8_write_decimal(x, s, at)
 }
 
 #[unsafe(no_mangle)]
-pub extern "C" fn pb_i8_read_decimal(s: &[u8], from: usize, to: usize) -> signed8_sums::Checked
+pub extern "C" fn pb_i8_read_decimal(s: &[u8], from: usize, to: usize) -> answers::AnswerI8
     ensures { Answers result.ok result.value (said.whole_in (signed 8) from to s.now) }
 {
     promisebook_decimal::pb_i8_read_decimal(s, from, to)
 }
 
 #[unsafe(no_mangle)]
-pub extern "C" fn pb_i8_write_decimal(x: i8, s: &mut [u8], at: usize) -> decimal_write::Length
+pub extern "C" fn pb_i8_write_decimal(x: i8, s: &mut [u8], at: usize) -> answers::AnswerUsize
     ensures { text.Shows result.ok result.value s.old at (text.whole x) s.new }
 {
     promisebook_decimal::pb_i8_write_decimal(x, s, at)
@@ -40,28 +40,28 @@ pub extern "C" fn pb_i8_write_decimal(x: i8, s: &mut [u8], at: usize) -> decimal
 // ---- 16 bits
 
 #[unsafe(no_mangle)]
-pub extern "C" fn pb_u16_read_decimal(s: &[u8], from: usize, to: usize) -> unsigned16_sums::Checked
+pub extern "C" fn pb_u16_read_decimal(s: &[u8], from: usize, to: usize) -> answers::AnswerU16
     ensures { Answers result.ok (pos result.value) (said.natural_in (unsigned 16) from to s.now) }
 {
     promisebook_decimal::pb_u16_read_decimal(s, from, to)
 }
 
 #[unsafe(no_mangle)]
-pub extern "C" fn pb_u16_write_decimal(x: u16, s: &mut [u8], at: usize) -> decimal_write::Length
+pub extern "C" fn pb_u16_write_decimal(x: u16, s: &mut [u8], at: usize) -> answers::AnswerUsize
     ensures { text.Shows result.ok result.value s.old at (text.natural x) s.new }
 {
     promisebook_decimal::pb_u16_write_decimal(x, s, at)
 }
 
 #[unsafe(no_mangle)]
-pub extern "C" fn pb_i16_read_decimal(s: &[u8], from: usize, to: usize) -> signed16_sums::Checked
+pub extern "C" fn pb_i16_read_decimal(s: &[u8], from: usize, to: usize) -> answers::AnswerI16
     ensures { Answers result.ok result.value (said.whole_in (signed 16) from to s.now) }
 {
     promisebook_decimal::pb_i16_read_decimal(s, from, to)
 }
 
 #[unsafe(no_mangle)]
-pub extern "C" fn pb_i16_write_decimal(x: i16, s: &mut [u8], at: usize) -> decimal_write::Length
+pub extern "C" fn pb_i16_write_decimal(x: i16, s: &mut [u8], at: usize) -> answers::AnswerUsize
     ensures { text.Shows result.ok result.value s.old at (text.whole x) s.new }
 {
     promisebook_decimal::pb_i16_write_decimal(x, s, at)
@@ -70,28 +70,28 @@ pub extern "C" fn pb_i16_write_decimal(x: i16, s: &mut [u8], at: usize) -> decim
 // ---- 32 bits
 
 #[unsafe(no_mangle)]
-pub extern "C" fn pb_u32_read_decimal(s: &[u8], from: usize, to: usize) -> unsigned32_sums::Checked
+pub extern "C" fn pb_u32_read_decimal(s: &[u8], from: usize, to: usize) -> answers::AnswerU32
     ensures { Answers result.ok (pos result.value) (said.natural_in (unsigned 32) from to s.now) }
 {
     promisebook_decimal::pb_u32_read_decimal(s, from, to)
 }
 
 #[unsafe(no_mangle)]
-pub extern "C" fn pb_u32_write_decimal(x: u32, s: &mut [u8], at: usize) -> decimal_write::Length
+pub extern "C" fn pb_u32_write_decimal(x: u32, s: &mut [u8], at: usize) -> answers::AnswerUsize
     ensures { text.Shows result.ok result.value s.old at (text.natural x) s.new }
 {
     promisebook_decimal::pb_u32_write_decimal(x, s, at)
 }
 
 #[unsafe(no_mangle)]
-pub extern "C" fn pb_i32_read_decimal(s: &[u8], from: usize, to: usize) -> signed32_sums::Checked
+pub extern "C" fn pb_i32_read_decimal(s: &[u8], from: usize, to: usize) -> answers::AnswerI32
     ensures { Answers result.ok result.value (said.whole_in (signed 32) from to s.now) }
 {
     promisebook_decimal::pb_i32_read_decimal(s, from, to)
 }
 
 #[unsafe(no_mangle)]
-pub extern "C" fn pb_i32_write_decimal(x: i32, s: &mut [u8], at: usize) -> decimal_write::Length
+pub extern "C" fn pb_i32_write_decimal(x: i32, s: &mut [u8], at: usize) -> answers::AnswerUsize
     ensures { text.Shows result.ok result.value s.old at (text.whole x) s.new }
 {
     promisebook_decimal::pb_i32_write_decimal(x, s, at)
@@ -100,28 +100,28 @@ pub extern "C" fn pb_i32_write_decimal(x: i32, s: &mut [u8], at: usize) -> decim
 // ---- 64 bits
 
 #[unsafe(no_mangle)]
-pub extern "C" fn pb_u64_read_decimal(s: &[u8], from: usize, to: usize) -> unsigned64_sums::Checked
+pub extern "C" fn pb_u64_read_decimal(s: &[u8], from: usize, to: usize) -> answers::AnswerU64
     ensures { Answers result.ok (pos result.value) (said.natural_in (unsigned 64) from to s.now) }
 {
     promisebook_decimal::pb_u64_read_decimal(s, from, to)
 }
 
 #[unsafe(no_mangle)]
-pub extern "C" fn pb_u64_write_decimal(x: u64, s: &mut [u8], at: usize) -> decimal_write::Length
+pub extern "C" fn pb_u64_write_decimal(x: u64, s: &mut [u8], at: usize) -> answers::AnswerUsize
     ensures { text.Shows result.ok result.value s.old at (text.natural x) s.new }
 {
     promisebook_decimal::pb_u64_write_decimal(x, s, at)
 }
 
 #[unsafe(no_mangle)]
-pub extern "C" fn pb_i64_read_decimal(s: &[u8], from: usize, to: usize) -> signed64_sums::Checked
+pub extern "C" fn pb_i64_read_decimal(s: &[u8], from: usize, to: usize) -> answers::AnswerI64
     ensures { Answers result.ok result.value (said.whole_in (signed 64) from to s.now) }
 {
     promisebook_decimal::pb_i64_read_decimal(s, from, to)
 }
 
 #[unsafe(no_mangle)]
-pub extern "C" fn pb_i64_write_decimal(x: i64, s: &mut [u8], at: usize) -> decimal_write::Length
+pub extern "C" fn pb_i64_write_decimal(x: i64, s: &mut [u8], at: usize) -> answers::AnswerUsize
     ensures { text.Shows result.ok result.value s.old at (text.whole x) s.new }
 {
     promisebook_decimal::pb_i64_write_decimal(x, s, at)
@@ -130,36 +130,28 @@ pub extern "C" fn pb_i64_write_decimal(x: i64, s: &mut [u8], at: usize) -> decim
 // ---- the size type
 
 #[unsafe(no_mangle)]
-pub extern "C" fn pb_usize_read_decimal(
-    s: &[u8],
-    from: usize,
-    to: usize,
-) -> unsigned_size_sums::Checked
+pub extern "C" fn pb_usize_read_decimal(s: &[u8], from: usize, to: usize) -> answers::AnswerUsize
     ensures { Answers result.ok (pos result.value) (said.natural_in (unsigned 64) from to s.now) }
 {
     promisebook_decimal::pb_usize_read_decimal(s, from, to)
 }
 
 #[unsafe(no_mangle)]
-pub extern "C" fn pb_usize_write_decimal(x: usize, s: &mut [u8], at: usize) -> decimal_write::Length
+pub extern "C" fn pb_usize_write_decimal(x: usize, s: &mut [u8], at: usize) -> answers::AnswerUsize
     ensures { text.Shows result.ok result.value s.old at (text.natural x) s.new }
 {
     promisebook_decimal::pb_usize_write_decimal(x, s, at)
 }
 
 #[unsafe(no_mangle)]
-pub extern "C" fn pb_isize_read_decimal(
-    s: &[u8],
-    from: usize,
-    to: usize,
-) -> signed_size_sums::Checked
+pub extern "C" fn pb_isize_read_decimal(s: &[u8], from: usize, to: usize) -> answers::AnswerIsize
     ensures { Answers result.ok result.value (said.whole_in (signed 64) from to s.now) }
 {
     promisebook_decimal::pb_isize_read_decimal(s, from, to)
 }
 
 #[unsafe(no_mangle)]
-pub extern "C" fn pb_isize_write_decimal(x: isize, s: &mut [u8], at: usize) -> decimal_write::Length
+pub extern "C" fn pb_isize_write_decimal(x: isize, s: &mut [u8], at: usize) -> answers::AnswerUsize
     ensures { text.Shows result.ok result.value s.old at (text.whole x) s.new }
 {
     promisebook_decimal::pb_isize_write_decimal(x, s, at)

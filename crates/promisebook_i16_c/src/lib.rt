@@ -1,8 +1,8 @@
 // The exports of promisebook_i16, as a static library: each has the clauses of the face's function, which it calls.
 #![tactic(auto)]
 
-ghost use Rattle.std.specs.Prelude.{◌≡◌, pos};
-ghost use Rattle.theory_answers.specs.Answer.{Answers, answered};
+ghost use Rattle.std.specs.Prelude.{◌≡◌, pos, Some};
+ghost use Rattle.theory_answers.specs.Answer.{Answers};
 ghost use Rattle.theory_whole.specs.Order.{numbered};
 ghost use Rattle.vstd_integers.specs.Signed.{wrapping_add, wrapping_add_unsigned, wrapping_sub, wrapping_mul, wrapping_shl, wrapping_shr, checked_add};
 ghost use Rattle.vstd_integers.specs.Signed.{checked_add_unsigned, checked_sub, checked_sub_unsigned, checked_mul, checked_div, checked_div_euclid};
@@ -52,63 +52,63 @@ pub extern "C" fn pb_i16_wrapping_shr(x: i16, rhs: u32) -> i16
 }
 
 #[unsafe(no_mangle)]
-pub extern "C" fn pb_i16_checked_add(x: i16, y: i16) -> signed16_sums::Checked
+pub extern "C" fn pb_i16_checked_add(x: i16, y: i16) -> answers::AnswerI16
     ensures { Answers result.ok result.value (checked_add 16 x y) }
 {
     promisebook_i16::pb_i16_checked_add(x, y)
 }
 
 #[unsafe(no_mangle)]
-pub extern "C" fn pb_i16_checked_add_unsigned(x: i16, y: u16) -> signed16_sums::Checked
+pub extern "C" fn pb_i16_checked_add_unsigned(x: i16, y: u16) -> answers::AnswerI16
     ensures { Answers result.ok result.value (checked_add_unsigned 16 x (pos y)) }
 {
     promisebook_i16::pb_i16_checked_add_unsigned(x, y)
 }
 
 #[unsafe(no_mangle)]
-pub extern "C" fn pb_i16_checked_sub(x: i16, y: i16) -> signed16_sums::Checked
+pub extern "C" fn pb_i16_checked_sub(x: i16, y: i16) -> answers::AnswerI16
     ensures { Answers result.ok result.value (checked_sub 16 x y) }
 {
     promisebook_i16::pb_i16_checked_sub(x, y)
 }
 
 #[unsafe(no_mangle)]
-pub extern "C" fn pb_i16_checked_sub_unsigned(x: i16, y: u16) -> signed16_sums::Checked
+pub extern "C" fn pb_i16_checked_sub_unsigned(x: i16, y: u16) -> answers::AnswerI16
     ensures { Answers result.ok result.value (checked_sub_unsigned 16 x (pos y)) }
 {
     promisebook_i16::pb_i16_checked_sub_unsigned(x, y)
 }
 
 #[unsafe(no_mangle)]
-pub extern "C" fn pb_i16_checked_mul(x: i16, y: i16) -> signed16_sums::Checked
+pub extern "C" fn pb_i16_checked_mul(x: i16, y: i16) -> answers::AnswerI16
     ensures { Answers result.ok result.value (checked_mul 16 x y) }
 {
     promisebook_i16::pb_i16_checked_mul(x, y)
 }
 
 #[unsafe(no_mangle)]
-pub extern "C" fn pb_i16_checked_div(x: i16, y: i16) -> signed16_sums::Checked
+pub extern "C" fn pb_i16_checked_div(x: i16, y: i16) -> answers::AnswerI16
     ensures { Answers result.ok result.value (checked_div 16 x y) }
 {
     promisebook_i16::pb_i16_checked_div(x, y)
 }
 
 #[unsafe(no_mangle)]
-pub extern "C" fn pb_i16_checked_div_euclid(x: i16, y: i16) -> signed16_sums::Checked
+pub extern "C" fn pb_i16_checked_div_euclid(x: i16, y: i16) -> answers::AnswerI16
     ensures { Answers result.ok result.value (checked_div_euclid 16 x y) }
 {
     promisebook_i16::pb_i16_checked_div_euclid(x, y)
 }
 
 #[unsafe(no_mangle)]
-pub extern "C" fn pb_i16_checked_rem(x: i16, y: i16) -> signed16_sums::Checked
+pub extern "C" fn pb_i16_checked_rem(x: i16, y: i16) -> answers::AnswerI16
     ensures { Answers result.ok result.value (checked_rem 16 x y) }
 {
     promisebook_i16::pb_i16_checked_rem(x, y)
 }
 
 #[unsafe(no_mangle)]
-pub extern "C" fn pb_i16_checked_rem_euclid(x: i16, y: i16) -> signed16_sums::Checked
+pub extern "C" fn pb_i16_checked_rem_euclid(x: i16, y: i16) -> answers::AnswerI16
     ensures { Answers result.ok result.value (checked_rem_euclid 16 x y) }
 {
     promisebook_i16::pb_i16_checked_rem_euclid(x, y)
@@ -171,8 +171,8 @@ pub extern "C" fn pb_i16_cmp(x: i16, y: i16) -> i8
 }
 
 #[unsafe(no_mangle)]
-pub extern "C" fn pb_i16_partial_cmp(x: i16, y: i16) -> ordering::PartialOrdering
-    ensures { Answers result.ok result.value (answered (numbered (cmp x y))) }
+pub extern "C" fn pb_i16_partial_cmp(x: i16, y: i16) -> answers::AnswerI8
+    ensures { Answers result.ok result.value (Some (numbered (cmp x y))) }
 {
     promisebook_i16::pb_i16_partial_cmp(x, y)
 }

@@ -2,8 +2,8 @@
 // call of ours.
 #![tactic(auto)]
 
-ghost use Rattle.std.specs.Prelude.{◌≡◌, pos};
-ghost use Rattle.theory_answers.specs.Answer.{Answers, answered};
+ghost use Rattle.std.specs.Prelude.{◌≡◌, pos, Some};
+ghost use Rattle.theory_answers.specs.Answer.{Answers};
 ghost use Rattle.theory_whole.specs.Order.{numbered};
 ghost use Rattle.vstd_integers.specs.Signed.{wrapping_add, wrapping_add_unsigned, wrapping_sub, wrapping_mul, wrapping_shl, wrapping_shr, checked_add};
 ghost use Rattle.vstd_integers.specs.Signed.{checked_add_unsigned, checked_sub, checked_sub_unsigned, checked_mul, checked_div, checked_div_euclid};
@@ -14,105 +14,105 @@ ghost use Rattle.vstd_integers.specs.Compare.{clone, eq, ne, cmp, lt, le, gt, ge
 pub extern "C" fn pb_i64_wrapping_add(x: i64, y: i64) -> i64
     ensures { result ≡ wrapping_add 64 x y }
 {
-    signed64_sums::wrapping_add(x, y)
+    signed_sums::wrapping_add(x, y)
 }
 
 #[unsafe(no_mangle)]
 pub extern "C" fn pb_i64_wrapping_add_unsigned(x: i64, y: u64) -> i64
     ensures { result ≡ wrapping_add_unsigned 64 x (pos y) }
 {
-    signed64_sums::wrapping_add_unsigned(x, y)
+    signed_sums::wrapping_add_unsigned(x, y)
 }
 
 #[unsafe(no_mangle)]
 pub extern "C" fn pb_i64_wrapping_sub(x: i64, y: i64) -> i64
     ensures { result ≡ wrapping_sub 64 x y }
 {
-    signed64_sums::wrapping_sub(x, y)
+    signed_sums::wrapping_sub(x, y)
 }
 
 #[unsafe(no_mangle)]
 pub extern "C" fn pb_i64_wrapping_mul(x: i64, y: i64) -> i64
     ensures { result ≡ wrapping_mul 64 x y }
 {
-    signed64_sums::wrapping_mul(x, y)
+    signed_sums::wrapping_mul(x, y)
 }
 
 #[unsafe(no_mangle)]
 pub extern "C" fn pb_i64_wrapping_shl(x: i64, rhs: u32) -> i64
     ensures { result ≡ wrapping_shl 64 x rhs }
 {
-    signed64_bits::wrapping_shl(x, rhs)
+    signed_bits::wrapping_shl(x, rhs)
 }
 
 #[unsafe(no_mangle)]
 pub extern "C" fn pb_i64_wrapping_shr(x: i64, rhs: u32) -> i64
     ensures { result ≡ wrapping_shr 64 x rhs }
 {
-    signed64_bits::wrapping_shr(x, rhs)
+    signed_bits::wrapping_shr(x, rhs)
 }
 
 #[unsafe(no_mangle)]
-pub extern "C" fn pb_i64_checked_add(x: i64, y: i64) -> signed64_sums::Checked
+pub extern "C" fn pb_i64_checked_add(x: i64, y: i64) -> answers::AnswerI64
     ensures { Answers result.ok result.value (checked_add 64 x y) }
 {
-    signed64_sums::checked_add(x, y)
+    signed_sums::checked_add(x, y).into()
 }
 
 #[unsafe(no_mangle)]
-pub extern "C" fn pb_i64_checked_add_unsigned(x: i64, y: u64) -> signed64_sums::Checked
+pub extern "C" fn pb_i64_checked_add_unsigned(x: i64, y: u64) -> answers::AnswerI64
     ensures { Answers result.ok result.value (checked_add_unsigned 64 x (pos y)) }
 {
-    signed64_sums::checked_add_unsigned(x, y)
+    signed_sums::checked_add_unsigned(x, y).into()
 }
 
 #[unsafe(no_mangle)]
-pub extern "C" fn pb_i64_checked_sub(x: i64, y: i64) -> signed64_sums::Checked
+pub extern "C" fn pb_i64_checked_sub(x: i64, y: i64) -> answers::AnswerI64
     ensures { Answers result.ok result.value (checked_sub 64 x y) }
 {
-    signed64_sums::checked_sub(x, y)
+    signed_sums::checked_sub(x, y).into()
 }
 
 #[unsafe(no_mangle)]
-pub extern "C" fn pb_i64_checked_sub_unsigned(x: i64, y: u64) -> signed64_sums::Checked
+pub extern "C" fn pb_i64_checked_sub_unsigned(x: i64, y: u64) -> answers::AnswerI64
     ensures { Answers result.ok result.value (checked_sub_unsigned 64 x (pos y)) }
 {
-    signed64_sums::checked_sub_unsigned(x, y)
+    signed_sums::checked_sub_unsigned(x, y).into()
 }
 
 #[unsafe(no_mangle)]
-pub extern "C" fn pb_i64_checked_mul(x: i64, y: i64) -> signed64_sums::Checked
+pub extern "C" fn pb_i64_checked_mul(x: i64, y: i64) -> answers::AnswerI64
     ensures { Answers result.ok result.value (checked_mul 64 x y) }
 {
-    signed64_sums::checked_mul(x, y)
+    signed_sums::checked_mul(x, y).into()
 }
 
 #[unsafe(no_mangle)]
-pub extern "C" fn pb_i64_checked_div(x: i64, y: i64) -> signed64_sums::Checked
+pub extern "C" fn pb_i64_checked_div(x: i64, y: i64) -> answers::AnswerI64
     ensures { Answers result.ok result.value (checked_div 64 x y) }
 {
-    signed64_division::checked_div(x, y)
+    signed_division::checked_div(x, y).into()
 }
 
 #[unsafe(no_mangle)]
-pub extern "C" fn pb_i64_checked_div_euclid(x: i64, y: i64) -> signed64_sums::Checked
+pub extern "C" fn pb_i64_checked_div_euclid(x: i64, y: i64) -> answers::AnswerI64
     ensures { Answers result.ok result.value (checked_div_euclid 64 x y) }
 {
-    signed64_division::checked_div_euclid(x, y)
+    signed_division::checked_div_euclid(x, y).into()
 }
 
 #[unsafe(no_mangle)]
-pub extern "C" fn pb_i64_checked_rem(x: i64, y: i64) -> signed64_sums::Checked
+pub extern "C" fn pb_i64_checked_rem(x: i64, y: i64) -> answers::AnswerI64
     ensures { Answers result.ok result.value (checked_rem 64 x y) }
 {
-    signed64_division::checked_rem(x, y)
+    signed_division::checked_rem(x, y).into()
 }
 
 #[unsafe(no_mangle)]
-pub extern "C" fn pb_i64_checked_rem_euclid(x: i64, y: i64) -> signed64_sums::Checked
+pub extern "C" fn pb_i64_checked_rem_euclid(x: i64, y: i64) -> answers::AnswerI64
     ensures { Answers result.ok result.value (checked_rem_euclid 64 x y) }
 {
-    signed64_division::checked_rem_euclid(x, y)
+    signed_division::checked_rem_euclid(x, y).into()
 }
 
 #[unsafe(no_mangle)]
@@ -126,57 +126,54 @@ pub extern "C" fn pb_i64_clone(x: i64) -> i64
 pub extern "C" fn pb_i64_eq(x: i64, y: i64) -> bool
     ensures { result ≡ eq x y }
 {
-    ordering::is_eq(signed64_order::compare(x, y))
+    ordering::is_eq(signed_order::compare(x, y))
 }
 
 #[unsafe(no_mangle)]
 pub extern "C" fn pb_i64_ne(x: i64, y: i64) -> bool
     ensures { result ≡ ne x y }
 {
-    ordering::is_ne(signed64_order::compare(x, y))
+    ordering::is_ne(signed_order::compare(x, y))
 }
 
 #[unsafe(no_mangle)]
 pub extern "C" fn pb_i64_lt(x: i64, y: i64) -> bool
     ensures { result ≡ lt x y }
 {
-    ordering::is_lt(signed64_order::compare(x, y))
+    ordering::is_lt(signed_order::compare(x, y))
 }
 
 #[unsafe(no_mangle)]
 pub extern "C" fn pb_i64_le(x: i64, y: i64) -> bool
     ensures { result ≡ le x y }
 {
-    ordering::is_le(signed64_order::compare(x, y))
+    ordering::is_le(signed_order::compare(x, y))
 }
 
 #[unsafe(no_mangle)]
 pub extern "C" fn pb_i64_gt(x: i64, y: i64) -> bool
     ensures { result ≡ gt x y }
 {
-    ordering::is_gt(signed64_order::compare(x, y))
+    ordering::is_gt(signed_order::compare(x, y))
 }
 
 #[unsafe(no_mangle)]
 pub extern "C" fn pb_i64_ge(x: i64, y: i64) -> bool
     ensures { result ≡ ge x y }
 {
-    ordering::is_ge(signed64_order::compare(x, y))
+    ordering::is_ge(signed_order::compare(x, y))
 }
 
 #[unsafe(no_mangle)]
 pub extern "C" fn pb_i64_cmp(x: i64, y: i64) -> i8
     ensures { result ≡ numbered (cmp x y) }
 {
-    ordering::number(signed64_order::compare(x, y))
+    ordering::number(signed_order::compare(x, y))
 }
 
 #[unsafe(no_mangle)]
-pub extern "C" fn pb_i64_partial_cmp(x: i64, y: i64) -> ordering::PartialOrdering
-    ensures { Answers result.ok result.value (answered (numbered (cmp x y))) }
+pub extern "C" fn pb_i64_partial_cmp(x: i64, y: i64) -> answers::AnswerI8
+    ensures { Answers result.ok result.value (Some (numbered (cmp x y))) }
 {
-    ordering::PartialOrdering {
-        ok: true,
-        value: ordering::number(signed64_order::compare(x, y)),
-    }
+    Some(ordering::number(signed_order::compare(x, y))).into()
 }

@@ -1,8 +1,8 @@
 // The exports of promisebook_i8, as a static library: each has the clauses of the face's function, which it calls.
 #![tactic(auto)]
 
-ghost use Rattle.std.specs.Prelude.{◌≡◌, pos};
-ghost use Rattle.theory_answers.specs.Answer.{Answers, answered};
+ghost use Rattle.std.specs.Prelude.{◌≡◌, pos, Some};
+ghost use Rattle.theory_answers.specs.Answer.{Answers};
 ghost use Rattle.theory_whole.specs.Order.{numbered};
 ghost use Rattle.vstd_integers.specs.Signed.{wrapping_add, wrapping_add_unsigned, wrapping_sub, wrapping_mul, wrapping_shl, wrapping_shr, checked_add};
 ghost use Rattle.vstd_integers.specs.Signed.{checked_add_unsigned, checked_sub, checked_sub_unsigned, checked_mul, checked_div, checked_div_euclid};
@@ -52,63 +52,63 @@ pub extern "C" fn pb_i8_wrapping_shr(x: i8, rhs: u32) -> i8
 }
 
 #[unsafe(no_mangle)]
-pub extern "C" fn pb_i8_checked_add(x: i8, y: i8) -> signed8_sums::Checked
+pub extern "C" fn pb_i8_checked_add(x: i8, y: i8) -> answers::AnswerI8
     ensures { Answers result.ok result.value (checked_add 8 x y) }
 {
     promisebook_i8::pb_i8_checked_add(x, y)
 }
 
 #[unsafe(no_mangle)]
-pub extern "C" fn pb_i8_checked_add_unsigned(x: i8, y: u8) -> signed8_sums::Checked
+pub extern "C" fn pb_i8_checked_add_unsigned(x: i8, y: u8) -> answers::AnswerI8
     ensures { Answers result.ok result.value (checked_add_unsigned 8 x (pos y)) }
 {
     promisebook_i8::pb_i8_checked_add_unsigned(x, y)
 }
 
 #[unsafe(no_mangle)]
-pub extern "C" fn pb_i8_checked_sub(x: i8, y: i8) -> signed8_sums::Checked
+pub extern "C" fn pb_i8_checked_sub(x: i8, y: i8) -> answers::AnswerI8
     ensures { Answers result.ok result.value (checked_sub 8 x y) }
 {
     promisebook_i8::pb_i8_checked_sub(x, y)
 }
 
 #[unsafe(no_mangle)]
-pub extern "C" fn pb_i8_checked_sub_unsigned(x: i8, y: u8) -> signed8_sums::Checked
+pub extern "C" fn pb_i8_checked_sub_unsigned(x: i8, y: u8) -> answers::AnswerI8
     ensures { Answers result.ok result.value (checked_sub_unsigned 8 x (pos y)) }
 {
     promisebook_i8::pb_i8_checked_sub_unsigned(x, y)
 }
 
 #[unsafe(no_mangle)]
-pub extern "C" fn pb_i8_checked_mul(x: i8, y: i8) -> signed8_sums::Checked
+pub extern "C" fn pb_i8_checked_mul(x: i8, y: i8) -> answers::AnswerI8
     ensures { Answers result.ok result.value (checked_mul 8 x y) }
 {
     promisebook_i8::pb_i8_checked_mul(x, y)
 }
 
 #[unsafe(no_mangle)]
-pub extern "C" fn pb_i8_checked_div(x: i8, y: i8) -> signed8_sums::Checked
+pub extern "C" fn pb_i8_checked_div(x: i8, y: i8) -> answers::AnswerI8
     ensures { Answers result.ok result.value (checked_div 8 x y) }
 {
     promisebook_i8::pb_i8_checked_div(x, y)
 }
 
 #[unsafe(no_mangle)]
-pub extern "C" fn pb_i8_checked_div_euclid(x: i8, y: i8) -> signed8_sums::Checked
+pub extern "C" fn pb_i8_checked_div_euclid(x: i8, y: i8) -> answers::AnswerI8
     ensures { Answers result.ok result.value (checked_div_euclid 8 x y) }
 {
     promisebook_i8::pb_i8_checked_div_euclid(x, y)
 }
 
 #[unsafe(no_mangle)]
-pub extern "C" fn pb_i8_checked_rem(x: i8, y: i8) -> signed8_sums::Checked
+pub extern "C" fn pb_i8_checked_rem(x: i8, y: i8) -> answers::AnswerI8
     ensures { Answers result.ok result.value (checked_rem 8 x y) }
 {
     promisebook_i8::pb_i8_checked_rem(x, y)
 }
 
 #[unsafe(no_mangle)]
-pub extern "C" fn pb_i8_checked_rem_euclid(x: i8, y: i8) -> signed8_sums::Checked
+pub extern "C" fn pb_i8_checked_rem_euclid(x: i8, y: i8) -> answers::AnswerI8
     ensures { Answers result.ok result.value (checked_rem_euclid 8 x y) }
 {
     promisebook_i8::pb_i8_checked_rem_euclid(x, y)
@@ -171,8 +171,8 @@ pub extern "C" fn pb_i8_cmp(x: i8, y: i8) -> i8
 }
 
 #[unsafe(no_mangle)]
-pub extern "C" fn pb_i8_partial_cmp(x: i8, y: i8) -> ordering::PartialOrdering
-    ensures { Answers result.ok result.value (answered (numbered (cmp x y))) }
+pub extern "C" fn pb_i8_partial_cmp(x: i8, y: i8) -> answers::AnswerI8
+    ensures { Answers result.ok result.value (Some (numbered (cmp x y))) }
 {
     promisebook_i8::pb_i8_partial_cmp(x, y)
 }

@@ -1,8 +1,8 @@
 // The exports of promisebook_isize, as a static library: each has the clauses of the face's function, which it calls.
 #![tactic(auto)]
 
-ghost use Rattle.std.specs.Prelude.{◌≡◌, pos};
-ghost use Rattle.theory_answers.specs.Answer.{Answers, answered};
+ghost use Rattle.std.specs.Prelude.{◌≡◌, pos, Some};
+ghost use Rattle.theory_answers.specs.Answer.{Answers};
 ghost use Rattle.theory_whole.specs.Order.{numbered};
 ghost use Rattle.vstd_integers.specs.Signed.{wrapping_add, wrapping_add_unsigned, wrapping_sub, wrapping_mul, wrapping_shl, wrapping_shr, checked_add};
 ghost use Rattle.vstd_integers.specs.Signed.{checked_add_unsigned, checked_sub, checked_sub_unsigned, checked_mul, checked_div, checked_div_euclid};
@@ -52,63 +52,63 @@ pub extern "C" fn pb_isize_wrapping_shr(x: isize, rhs: u32) -> isize
 }
 
 #[unsafe(no_mangle)]
-pub extern "C" fn pb_isize_checked_add(x: isize, y: isize) -> signed_size_sums::Checked
+pub extern "C" fn pb_isize_checked_add(x: isize, y: isize) -> answers::AnswerIsize
     ensures { Answers result.ok result.value (checked_add 64 x y) }
 {
     promisebook_isize::pb_isize_checked_add(x, y)
 }
 
 #[unsafe(no_mangle)]
-pub extern "C" fn pb_isize_checked_add_unsigned(x: isize, y: usize) -> signed_size_sums::Checked
+pub extern "C" fn pb_isize_checked_add_unsigned(x: isize, y: usize) -> answers::AnswerIsize
     ensures { Answers result.ok result.value (checked_add_unsigned 64 x (pos y)) }
 {
     promisebook_isize::pb_isize_checked_add_unsigned(x, y)
 }
 
 #[unsafe(no_mangle)]
-pub extern "C" fn pb_isize_checked_sub(x: isize, y: isize) -> signed_size_sums::Checked
+pub extern "C" fn pb_isize_checked_sub(x: isize, y: isize) -> answers::AnswerIsize
     ensures { Answers result.ok result.value (checked_sub 64 x y) }
 {
     promisebook_isize::pb_isize_checked_sub(x, y)
 }
 
 #[unsafe(no_mangle)]
-pub extern "C" fn pb_isize_checked_sub_unsigned(x: isize, y: usize) -> signed_size_sums::Checked
+pub extern "C" fn pb_isize_checked_sub_unsigned(x: isize, y: usize) -> answers::AnswerIsize
     ensures { Answers result.ok result.value (checked_sub_unsigned 64 x (pos y)) }
 {
     promisebook_isize::pb_isize_checked_sub_unsigned(x, y)
 }
 
 #[unsafe(no_mangle)]
-pub extern "C" fn pb_isize_checked_mul(x: isize, y: isize) -> signed_size_sums::Checked
+pub extern "C" fn pb_isize_checked_mul(x: isize, y: isize) -> answers::AnswerIsize
     ensures { Answers result.ok result.value (checked_mul 64 x y) }
 {
     promisebook_isize::pb_isize_checked_mul(x, y)
 }
 
 #[unsafe(no_mangle)]
-pub extern "C" fn pb_isize_checked_div(x: isize, y: isize) -> signed_size_sums::Checked
+pub extern "C" fn pb_isize_checked_div(x: isize, y: isize) -> answers::AnswerIsize
     ensures { Answers result.ok result.value (checked_div 64 x y) }
 {
     promisebook_isize::pb_isize_checked_div(x, y)
 }
 
 #[unsafe(no_mangle)]
-pub extern "C" fn pb_isize_checked_div_euclid(x: isize, y: isize) -> signed_size_sums::Checked
+pub extern "C" fn pb_isize_checked_div_euclid(x: isize, y: isize) -> answers::AnswerIsize
     ensures { Answers result.ok result.value (checked_div_euclid 64 x y) }
 {
     promisebook_isize::pb_isize_checked_div_euclid(x, y)
 }
 
 #[unsafe(no_mangle)]
-pub extern "C" fn pb_isize_checked_rem(x: isize, y: isize) -> signed_size_sums::Checked
+pub extern "C" fn pb_isize_checked_rem(x: isize, y: isize) -> answers::AnswerIsize
     ensures { Answers result.ok result.value (checked_rem 64 x y) }
 {
     promisebook_isize::pb_isize_checked_rem(x, y)
 }
 
 #[unsafe(no_mangle)]
-pub extern "C" fn pb_isize_checked_rem_euclid(x: isize, y: isize) -> signed_size_sums::Checked
+pub extern "C" fn pb_isize_checked_rem_euclid(x: isize, y: isize) -> answers::AnswerIsize
     ensures { Answers result.ok result.value (checked_rem_euclid 64 x y) }
 {
     promisebook_isize::pb_isize_checked_rem_euclid(x, y)
@@ -171,8 +171,8 @@ pub extern "C" fn pb_isize_cmp(x: isize, y: isize) -> i8
 }
 
 #[unsafe(no_mangle)]
-pub extern "C" fn pb_isize_partial_cmp(x: isize, y: isize) -> ordering::PartialOrdering
-    ensures { Answers result.ok result.value (answered (numbered (cmp x y))) }
+pub extern "C" fn pb_isize_partial_cmp(x: isize, y: isize) -> answers::AnswerI8
+    ensures { Answers result.ok result.value (Some (numbered (cmp x y))) }
 {
     promisebook_isize::pb_isize_partial_cmp(x, y)
 }

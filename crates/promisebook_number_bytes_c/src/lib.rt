@@ -11,7 +11,7 @@ ghost use Rattle.vstd_number_bytes.specs.Bytes.{spec_to_le_bytes, from_le_bytes}
 // ---- 16 bits
 
 #[unsafe(no_mangle)]
-pub extern "C" fn pb_u16_from_le_bytes(s: &[u8]) -> number_bytes16::Checked
+pub extern "C" fn pb_u16_from_le_bytes(s: &[u8]) -> answers::AnswerU16
     ensures { Answers result.ok (pos result.value) (from_le_bytes 16 1 s.now) }
 {
     promisebook_number_bytes::pb_u16_from_le_bytes(s)
@@ -28,7 +28,7 @@ pub extern "C" fn pb_u16_to_le_bytes(x: u16, s: &mut [u8], at: usize) -> bool
 // ---- 16 bits, beyond vstd: highest first
 
 #[unsafe(no_mangle)]
-pub extern "C" fn pb_u16_from_be_bytes(s: &[u8]) -> number_bytes16::Checked
+pub extern "C" fn pb_u16_from_be_bytes(s: &[u8]) -> answers::AnswerU16
     ensures { Answers result.ok (pos result.value) (number_high 256 2 s.now) }
 {
     promisebook_number_bytes::pb_u16_from_be_bytes(s)
@@ -44,7 +44,7 @@ pub extern "C" fn pb_u16_to_be_bytes(x: u16, s: &mut [u8], at: usize) -> bool
 // ---- 32 bits
 
 #[unsafe(no_mangle)]
-pub extern "C" fn pb_u32_from_le_bytes(s: &[u8]) -> number_bytes32::Checked
+pub extern "C" fn pb_u32_from_le_bytes(s: &[u8]) -> answers::AnswerU32
     ensures { Answers result.ok (pos result.value) (from_le_bytes 32 3 s.now) }
 {
     promisebook_number_bytes::pb_u32_from_le_bytes(s)
@@ -61,7 +61,7 @@ pub extern "C" fn pb_u32_to_le_bytes(x: u32, s: &mut [u8], at: usize) -> bool
 // ---- 32 bits, beyond vstd: highest first
 
 #[unsafe(no_mangle)]
-pub extern "C" fn pb_u32_from_be_bytes(s: &[u8]) -> number_bytes32::Checked
+pub extern "C" fn pb_u32_from_be_bytes(s: &[u8]) -> answers::AnswerU32
     ensures { Answers result.ok (pos result.value) (number_high 256 4 s.now) }
 {
     promisebook_number_bytes::pb_u32_from_be_bytes(s)
@@ -77,7 +77,7 @@ pub extern "C" fn pb_u32_to_be_bytes(x: u32, s: &mut [u8], at: usize) -> bool
 // ---- 64 bits
 
 #[unsafe(no_mangle)]
-pub extern "C" fn pb_u64_from_le_bytes(s: &[u8]) -> number_bytes64::Checked
+pub extern "C" fn pb_u64_from_le_bytes(s: &[u8]) -> answers::AnswerU64
     ensures { Answers result.ok (pos result.value) (from_le_bytes 64 7 s.now) }
 {
     promisebook_number_bytes::pb_u64_from_le_bytes(s)
@@ -94,7 +94,7 @@ pub extern "C" fn pb_u64_to_le_bytes(x: u64, s: &mut [u8], at: usize) -> bool
 // ---- 64 bits, beyond vstd: highest first
 
 #[unsafe(no_mangle)]
-pub extern "C" fn pb_u64_from_be_bytes(s: &[u8]) -> number_bytes64::Checked
+pub extern "C" fn pb_u64_from_be_bytes(s: &[u8]) -> answers::AnswerU64
     ensures { Answers result.ok (pos result.value) (number_high 256 8 s.now) }
 {
     promisebook_number_bytes::pb_u64_from_be_bytes(s)

@@ -7,38 +7,38 @@ ghost use Rattle.vstd_slices.specs.Promises as promise;
 // ---- reading
 
 #[unsafe(no_mangle)]
-pub extern "C" fn pb_bytes_len(s: &[u8], from: usize, to: usize) -> slices::Number
+pub extern "C" fn pb_bytes_len(s: &[u8], from: usize, to: usize) -> answers::AnswerUsize
     ensures { promise.Len result.ok result.value s.now from to }
 {
-    slices::len(s, from, to)
+    slices::len(s, from, to).into()
 }
 
 #[unsafe(no_mangle)]
-pub extern "C" fn pb_bytes_is_empty(s: &[u8], from: usize, to: usize) -> slices::Verdict
+pub extern "C" fn pb_bytes_is_empty(s: &[u8], from: usize, to: usize) -> answers::AnswerBool
     ensures { promise.IsEmpty result.ok result.value s.now from to }
 {
-    slices::is_empty(s, from, to)
+    slices::is_empty(s, from, to).into()
 }
 
 #[unsafe(no_mangle)]
-pub extern "C" fn pb_bytes_get(s: &[u8], from: usize, to: usize, i: usize) -> slices::Byte
+pub extern "C" fn pb_bytes_get(s: &[u8], from: usize, to: usize, i: usize) -> answers::AnswerU8
     ensures { promise.Get result.ok result.value s.now from to i }
 {
-    slices::get(s, from, to, i)
+    slices::get(s, from, to, i).into()
 }
 
 #[unsafe(no_mangle)]
-pub extern "C" fn pb_bytes_first(s: &[u8], from: usize, to: usize) -> slices::Byte
+pub extern "C" fn pb_bytes_first(s: &[u8], from: usize, to: usize) -> answers::AnswerU8
     ensures { promise.First result.ok result.value s.now from to }
 {
-    slices::first(s, from, to)
+    slices::first(s, from, to).into()
 }
 
 #[unsafe(no_mangle)]
-pub extern "C" fn pb_bytes_last(s: &[u8], from: usize, to: usize) -> slices::Byte
+pub extern "C" fn pb_bytes_last(s: &[u8], from: usize, to: usize) -> answers::AnswerU8
     ensures { promise.Last result.ok result.value s.now from to }
 {
-    slices::last(s, from, to)
+    slices::last(s, from, to).into()
 }
 
 #[unsafe(no_mangle)]
@@ -48,10 +48,10 @@ pub extern "C" fn pb_bytes_sub_range(
     to: usize,
     a: usize,
     e: usize,
-) -> slices_parts::Range
+) -> answers::BytesRange
     ensures { promise.SubRange result.ok result.from result.to s.now from to a e }
 {
-    slices_parts::sub_range(s, from, to, a, e)
+    slices_parts::sub_range(s, from, to, a, e).into()
 }
 
 #[unsafe(no_mangle)]
@@ -60,17 +60,21 @@ pub extern "C" fn pb_bytes_split_at(
     from: usize,
     to: usize,
     m: usize,
-) -> slices_parts::Split
+) -> answers::BytesSplit
     ensures { promise.SplitAt result.ok result.from result.middle result.to s.now from to m }
 {
-    slices_parts::split_at(s, from, to, m)
+    slices_parts::split_at(s, from, to, m).into()
 }
 
 #[unsafe(no_mangle)]
-pub extern "C" fn pb_bytes_split_first(s: &[u8], from: usize, to: usize) -> slices::FirstAndRest
+pub extern "C" fn pb_bytes_split_first(
+    s: &[u8],
+    from: usize,
+    to: usize,
+) -> answers::BytesFirstAndRest
     ensures { promise.SplitFirst result.ok result.first result.from result.to s.now from to }
 {
-    slices::split_first(s, from, to)
+    slices::split_first(s, from, to).into()
 }
 
 // The first of vstd's chunks, from which the others follow.
@@ -80,10 +84,10 @@ pub extern "C" fn pb_bytes_next_piece(
     from: usize,
     to: usize,
     n: usize,
-) -> slices_parts::Range
+) -> answers::BytesRange
     ensures { promise.NextPiece result.ok result.from result.to s.now from to n }
 {
-    slices_parts::next_piece(s, from, to, n)
+    slices_parts::next_piece(s, from, to, n).into()
 }
 
 // ---- comparing
@@ -94,10 +98,10 @@ pub extern "C" fn pb_bytes_starts_with(
     from: usize,
     to: usize,
     needle: &[u8],
-) -> slices::Verdict
+) -> answers::AnswerBool
     ensures { promise.StartsWith result.ok result.value s.now from to needle.now }
 {
-    slices_compare::starts_with(s, from, to, needle)
+    slices_compare::starts_with(s, from, to, needle).into()
 }
 
 #[unsafe(no_mangle)]
@@ -106,24 +110,29 @@ pub extern "C" fn pb_bytes_ends_with(
     from: usize,
     to: usize,
     needle: &[u8],
-) -> slices::Verdict
+) -> answers::AnswerBool
     ensures { promise.EndsWith result.ok result.value s.now from to needle.now }
 {
-    slices_compare::ends_with(s, from, to, needle)
+    slices_compare::ends_with(s, from, to, needle).into()
 }
 
 #[unsafe(no_mangle)]
-pub extern "C" fn pb_bytes_contains(s: &[u8], from: usize, to: usize, v: u8) -> slices::Verdict
+pub extern "C" fn pb_bytes_contains(s: &[u8], from: usize, to: usize, v: u8) -> answers::AnswerBool
     ensures { promise.Contains result.ok result.value s.now from to v }
 {
-    slices_compare::contains(s, from, to, v)
+    slices_compare::contains(s, from, to, v).into()
 }
 
 #[unsafe(no_mangle)]
-pub extern "C" fn pb_bytes_equal(s: &[u8], from: usize, to: usize, other: &[u8]) -> slices::Verdict
+pub extern "C" fn pb_bytes_equal(
+    s: &[u8],
+    from: usize,
+    to: usize,
+    other: &[u8],
+) -> answers::AnswerBool
     ensures { promise.Equal result.ok result.value s.now from to other.now }
 {
-    slices_compare::equal(s, from, to, other)
+    slices_compare::equal(s, from, to, other).into()
 }
 
 // ---- writing

@@ -6,35 +6,35 @@ ghost use Rattle.vstd_slices.specs.Promises as promise;
 // ---- reading
 
 #[unsafe(no_mangle)]
-pub extern "C" fn pb_bytes_len(s: &[u8], from: usize, to: usize) -> slices::Number
+pub extern "C" fn pb_bytes_len(s: &[u8], from: usize, to: usize) -> answers::AnswerUsize
     ensures { promise.Len result.ok result.value s.now from to }
 {
     promisebook_slices::pb_bytes_len(s, from, to)
 }
 
 #[unsafe(no_mangle)]
-pub extern "C" fn pb_bytes_is_empty(s: &[u8], from: usize, to: usize) -> slices::Verdict
+pub extern "C" fn pb_bytes_is_empty(s: &[u8], from: usize, to: usize) -> answers::AnswerBool
     ensures { promise.IsEmpty result.ok result.value s.now from to }
 {
     promisebook_slices::pb_bytes_is_empty(s, from, to)
 }
 
 #[unsafe(no_mangle)]
-pub extern "C" fn pb_bytes_get(s: &[u8], from: usize, to: usize, i: usize) -> slices::Byte
+pub extern "C" fn pb_bytes_get(s: &[u8], from: usize, to: usize, i: usize) -> answers::AnswerU8
     ensures { promise.Get result.ok result.value s.now from to i }
 {
     promisebook_slices::pb_bytes_get(s, from, to, i)
 }
 
 #[unsafe(no_mangle)]
-pub extern "C" fn pb_bytes_first(s: &[u8], from: usize, to: usize) -> slices::Byte
+pub extern "C" fn pb_bytes_first(s: &[u8], from: usize, to: usize) -> answers::AnswerU8
     ensures { promise.First result.ok result.value s.now from to }
 {
     promisebook_slices::pb_bytes_first(s, from, to)
 }
 
 #[unsafe(no_mangle)]
-pub extern "C" fn pb_bytes_last(s: &[u8], from: usize, to: usize) -> slices::Byte
+pub extern "C" fn pb_bytes_last(s: &[u8], from: usize, to: usize) -> answers::AnswerU8
     ensures { promise.Last result.ok result.value s.now from to }
 {
     promisebook_slices::pb_bytes_last(s, from, to)
@@ -47,7 +47,7 @@ pub extern "C" fn pb_bytes_sub_range(
     to: usize,
     a: usize,
     e: usize,
-) -> slices_parts::Range
+) -> answers::BytesRange
     ensures { promise.SubRange result.ok result.from result.to s.now from to a e }
 {
     promisebook_slices::pb_bytes_sub_range(s, from, to, a, e)
@@ -59,14 +59,18 @@ pub extern "C" fn pb_bytes_split_at(
     from: usize,
     to: usize,
     m: usize,
-) -> slices_parts::Split
+) -> answers::BytesSplit
     ensures { promise.SplitAt result.ok result.from result.middle result.to s.now from to m }
 {
     promisebook_slices::pb_bytes_split_at(s, from, to, m)
 }
 
 #[unsafe(no_mangle)]
-pub extern "C" fn pb_bytes_split_first(s: &[u8], from: usize, to: usize) -> slices::FirstAndRest
+pub extern "C" fn pb_bytes_split_first(
+    s: &[u8],
+    from: usize,
+    to: usize,
+) -> answers::BytesFirstAndRest
     ensures { promise.SplitFirst result.ok result.first result.from result.to s.now from to }
 {
     promisebook_slices::pb_bytes_split_first(s, from, to)
@@ -79,7 +83,7 @@ pub extern "C" fn pb_bytes_next_piece(
     from: usize,
     to: usize,
     n: usize,
-) -> slices_parts::Range
+) -> answers::BytesRange
     ensures { promise.NextPiece result.ok result.from result.to s.now from to n }
 {
     promisebook_slices::pb_bytes_next_piece(s, from, to, n)
@@ -93,7 +97,7 @@ pub extern "C" fn pb_bytes_starts_with(
     from: usize,
     to: usize,
     needle: &[u8],
-) -> slices::Verdict
+) -> answers::AnswerBool
     ensures { promise.StartsWith result.ok result.value s.now from to needle.now }
 {
     promisebook_slices::pb_bytes_starts_with(s, from, to, needle)
@@ -105,21 +109,26 @@ pub extern "C" fn pb_bytes_ends_with(
     from: usize,
     to: usize,
     needle: &[u8],
-) -> slices::Verdict
+) -> answers::AnswerBool
     ensures { promise.EndsWith result.ok result.value s.now from to needle.now }
 {
     promisebook_slices::pb_bytes_ends_with(s, from, to, needle)
 }
 
 #[unsafe(no_mangle)]
-pub extern "C" fn pb_bytes_contains(s: &[u8], from: usize, to: usize, v: u8) -> slices::Verdict
+pub extern "C" fn pb_bytes_contains(s: &[u8], from: usize, to: usize, v: u8) -> answers::AnswerBool
     ensures { promise.Contains result.ok result.value s.now from to v }
 {
     promisebook_slices::pb_bytes_contains(s, from, to, v)
 }
 
 #[unsafe(no_mangle)]
-pub extern "C" fn pb_bytes_equal(s: &[u8], from: usize, to: usize, other: &[u8]) -> slices::Verdict
+pub extern "C" fn pb_bytes_equal(
+    s: &[u8],
+    from: usize,
+    to: usize,
+    other: &[u8],
+) -> answers::AnswerBool
     ensures { promise.Equal result.ok result.value s.now from to other.now }
 {
     promisebook_slices::pb_bytes_equal(s, from, to, other)

@@ -8,10 +8,10 @@ ghost use Rattle.vstd_text.specs.Promises as promise;
 
 // char::len_utf8
 #[unsafe(no_mangle)]
-pub extern "C" fn pb_text_scalar_len(c: u32) -> text_scalar::Length
+pub extern "C" fn pb_text_scalar_len(c: u32) -> answers::AnswerUsize
     ensures { promise.ScalarLen result.ok result.value c }
 {
-    text_scalar::scalar_len(c)
+    text_scalar::scalar_len(c).into()
 }
 
 // char::is_whitespace
@@ -23,26 +23,26 @@ pub extern "C" fn pb_text_is_white_space(c: u32) -> bool
 }
 
 #[unsafe(no_mangle)]
-pub extern "C" fn pb_text_write(out: &mut [u8], at: usize, c: u32) -> text_scalar::Length
+pub extern "C" fn pb_text_write(out: &mut [u8], at: usize, c: u32) -> answers::AnswerUsize
     ensures { promise.Write result.ok result.value out.old out.new at c }
 {
-    text_write::write(out, at, c)
+    text_write::write(out, at, c).into()
 }
 
 // ---- the ends of a part
 
 #[unsafe(no_mangle)]
-pub extern "C" fn pb_text_read_first(s: &[u8], from: usize, to: usize) -> text_read::Read
+pub extern "C" fn pb_text_read_first(s: &[u8], from: usize, to: usize) -> text_answers::TextRead
     ensures { promise.ReadFirst result.ok result.value result.length s.now from to }
 {
-    text_read::read_first(s, from, to)
+    text_read::read_first(s, from, to).into()
 }
 
 #[unsafe(no_mangle)]
-pub extern "C" fn pb_text_read_last(s: &[u8], from: usize, to: usize) -> text_read::Read
+pub extern "C" fn pb_text_read_last(s: &[u8], from: usize, to: usize) -> text_answers::TextRead
     ensures { promise.ReadLast result.ok result.value result.length s.now from to }
 {
-    text_read::read_last(s, from, to)
+    text_read::read_last(s, from, to).into()
 }
 
 // ---- whole texts
@@ -55,25 +55,25 @@ pub extern "C" fn pb_text_valid(s: &[u8]) -> bool
 }
 
 #[unsafe(no_mangle)]
-pub extern "C" fn pb_text_count(s: &[u8]) -> text_valid::Counted
+pub extern "C" fn pb_text_count(s: &[u8]) -> answers::AnswerUsize
     ensures { promise.Count result.ok result.value s.now }
 {
-    text_valid::count(s)
+    text_valid::count(s).into()
 }
 
 #[unsafe(no_mangle)]
-pub extern "C" fn pb_text_is_boundary(s: &[u8], at: usize) -> text_valid::Tested
+pub extern "C" fn pb_text_is_boundary(s: &[u8], at: usize) -> answers::AnswerBool
     ensures { promise.IsBoundary result.ok result.value s.now at }
 {
-    text_valid::is_boundary(s, at)
+    text_valid::is_boundary(s, at).into()
 }
 
 // Both sides of a boundary are valid.
 #[unsafe(no_mangle)]
-pub extern "C" fn pb_text_split_at(s: &[u8], at: usize) -> text_valid::Split
+pub extern "C" fn pb_text_split_at(s: &[u8], at: usize) -> text_answers::TextSplit
     ensures { promise.SplitAt result.ok result.middle result.end s.now at }
 {
-    text_valid::split_at(s, at)
+    text_valid::split_at(s, at).into()
 }
 
 #[unsafe(no_mangle)]

@@ -7,7 +7,7 @@ ghost use Rattle.vstd_text.specs.Promises as promise;
 
 // char::len_utf8
 #[unsafe(no_mangle)]
-pub extern "C" fn pb_text_scalar_len(c: u32) -> text_scalar::Length
+pub extern "C" fn pb_text_scalar_len(c: u32) -> answers::AnswerUsize
     ensures { promise.ScalarLen result.ok result.value c }
 {
     promisebook_text::pb_text_scalar_len(c)
@@ -22,7 +22,7 @@ pub extern "C" fn pb_text_is_white_space(c: u32) -> bool
 }
 
 #[unsafe(no_mangle)]
-pub extern "C" fn pb_text_write(out: &mut [u8], at: usize, c: u32) -> text_scalar::Length
+pub extern "C" fn pb_text_write(out: &mut [u8], at: usize, c: u32) -> answers::AnswerUsize
     ensures { promise.Write result.ok result.value out.old out.new at c }
 {
     promisebook_text::pb_text_write(out, at, c)
@@ -31,14 +31,14 @@ pub extern "C" fn pb_text_write(out: &mut [u8], at: usize, c: u32) -> text_scala
 // ---- the ends of a part
 
 #[unsafe(no_mangle)]
-pub extern "C" fn pb_text_read_first(s: &[u8], from: usize, to: usize) -> text_read::Read
+pub extern "C" fn pb_text_read_first(s: &[u8], from: usize, to: usize) -> text_answers::TextRead
     ensures { promise.ReadFirst result.ok result.value result.length s.now from to }
 {
     promisebook_text::pb_text_read_first(s, from, to)
 }
 
 #[unsafe(no_mangle)]
-pub extern "C" fn pb_text_read_last(s: &[u8], from: usize, to: usize) -> text_read::Read
+pub extern "C" fn pb_text_read_last(s: &[u8], from: usize, to: usize) -> text_answers::TextRead
     ensures { promise.ReadLast result.ok result.value result.length s.now from to }
 {
     promisebook_text::pb_text_read_last(s, from, to)
@@ -54,14 +54,14 @@ pub extern "C" fn pb_text_valid(s: &[u8]) -> bool
 }
 
 #[unsafe(no_mangle)]
-pub extern "C" fn pb_text_count(s: &[u8]) -> text_valid::Counted
+pub extern "C" fn pb_text_count(s: &[u8]) -> answers::AnswerUsize
     ensures { promise.Count result.ok result.value s.now }
 {
     promisebook_text::pb_text_count(s)
 }
 
 #[unsafe(no_mangle)]
-pub extern "C" fn pb_text_is_boundary(s: &[u8], at: usize) -> text_valid::Tested
+pub extern "C" fn pb_text_is_boundary(s: &[u8], at: usize) -> answers::AnswerBool
     ensures { promise.IsBoundary result.ok result.value s.now at }
 {
     promisebook_text::pb_text_is_boundary(s, at)
@@ -69,7 +69,7 @@ pub extern "C" fn pb_text_is_boundary(s: &[u8], at: usize) -> text_valid::Tested
 
 // Both sides of a boundary are valid.
 #[unsafe(no_mangle)]
-pub extern "C" fn pb_text_split_at(s: &[u8], at: usize) -> text_valid::Split
+pub extern "C" fn pb_text_split_at(s: &[u8], at: usize) -> text_answers::TextSplit
     ensures { promise.SplitAt result.ok result.middle result.end s.now at }
 {
     promisebook_text::pb_text_split_at(s, at)

@@ -2,8 +2,8 @@
 // call of ours.
 #![tactic(auto)]
 
-ghost use Rattle.std.specs.Prelude.{◌≡◌, pos};
-ghost use Rattle.theory_answers.specs.Answer.{Answers, answered};
+ghost use Rattle.std.specs.Prelude.{◌≡◌, pos, Some};
+ghost use Rattle.theory_answers.specs.Answer.{Answers};
 ghost use Rattle.theory_whole.specs.Order.{numbered};
 ghost use Rattle.vstd_integers.specs.Unsigned.{wrapping_add, wrapping_add_signed, wrapping_sub, wrapping_mul, wrapping_shl, wrapping_shr, checked_add};
 ghost use Rattle.vstd_integers.specs.Unsigned.{checked_add_signed, checked_sub, checked_mul, checked_next_multiple_of, checked_div, checked_rem};
@@ -14,133 +14,133 @@ ghost use Rattle.vstd_integers.specs.Compare.{clone, eq, ne, cmp, lt, le, gt, ge
 pub extern "C" fn pb_u32_wrapping_add(x: u32, y: u32) -> u32
     ensures { pos result ≡ wrapping_add 32 (pos x) (pos y) }
 {
-    unsigned32_sums::wrapping_add(x, y)
+    unsigned_sums::wrapping_add(x, y)
 }
 
 #[unsafe(no_mangle)]
 pub extern "C" fn pb_u32_wrapping_add_signed(x: u32, y: i32) -> u32
     ensures { pos result ≡ wrapping_add_signed 32 (pos x) y }
 {
-    unsigned32_sums::wrapping_add_signed(x, y)
+    signed_sums::wrapping_add_signed(x, y)
 }
 
 #[unsafe(no_mangle)]
 pub extern "C" fn pb_u32_wrapping_sub(x: u32, y: u32) -> u32
     ensures { pos result ≡ wrapping_sub 32 (pos x) (pos y) }
 {
-    unsigned32_sums::wrapping_sub(x, y)
+    unsigned_sums::wrapping_sub(x, y)
 }
 
 #[unsafe(no_mangle)]
 pub extern "C" fn pb_u32_wrapping_mul(x: u32, y: u32) -> u32
     ensures { pos result ≡ wrapping_mul 32 (pos x) (pos y) }
 {
-    unsigned32_sums::wrapping_mul(x, y)
+    unsigned_sums::wrapping_mul(x, y)
 }
 
 #[unsafe(no_mangle)]
 pub extern "C" fn pb_u32_wrapping_shl(x: u32, rhs: u32) -> u32
     ensures { pos result ≡ wrapping_shl 32 (pos x) rhs }
 {
-    unsigned32_bits::wrapping_shl(x, rhs)
+    unsigned_bits::wrapping_shl(x, rhs)
 }
 
 #[unsafe(no_mangle)]
 pub extern "C" fn pb_u32_wrapping_shr(x: u32, rhs: u32) -> u32
     ensures { pos result ≡ wrapping_shr 32 (pos x) rhs }
 {
-    unsigned32_bits::wrapping_shr(x, rhs)
+    unsigned_bits::wrapping_shr(x, rhs)
 }
 
 #[unsafe(no_mangle)]
-pub extern "C" fn pb_u32_checked_add(x: u32, y: u32) -> unsigned32_sums::Checked
+pub extern "C" fn pb_u32_checked_add(x: u32, y: u32) -> answers::AnswerU32
     ensures { Answers result.ok (pos result.value) (checked_add 32 (pos x) (pos y)) }
 {
-    unsigned32_sums::checked_add(x, y)
+    unsigned_sums::checked_add(x, y).into()
 }
 
 #[unsafe(no_mangle)]
-pub extern "C" fn pb_u32_checked_add_signed(x: u32, y: i32) -> unsigned32_sums::Checked
+pub extern "C" fn pb_u32_checked_add_signed(x: u32, y: i32) -> answers::AnswerU32
     ensures { Answers result.ok (pos result.value) (checked_add_signed 32 (pos x) y) }
 {
-    unsigned32_sums::checked_add_signed(x, y)
+    signed_sums::checked_add_signed(x, y).into()
 }
 
 #[unsafe(no_mangle)]
-pub extern "C" fn pb_u32_checked_sub(x: u32, y: u32) -> unsigned32_sums::Checked
+pub extern "C" fn pb_u32_checked_sub(x: u32, y: u32) -> answers::AnswerU32
     ensures { Answers result.ok (pos result.value) (checked_sub 32 (pos x) (pos y)) }
 {
-    unsigned32_sums::checked_sub(x, y)
+    unsigned_sums::checked_sub(x, y).into()
 }
 
 #[unsafe(no_mangle)]
-pub extern "C" fn pb_u32_checked_mul(x: u32, y: u32) -> unsigned32_sums::Checked
+pub extern "C" fn pb_u32_checked_mul(x: u32, y: u32) -> answers::AnswerU32
     ensures { Answers result.ok (pos result.value) (checked_mul 32 (pos x) (pos y)) }
 {
-    unsigned32_sums::checked_mul(x, y)
+    unsigned_sums::checked_mul(x, y).into()
 }
 
 #[unsafe(no_mangle)]
-pub extern "C" fn pb_u32_checked_next_multiple_of(x: u32, y: u32) -> unsigned32_sums::Checked
+pub extern "C" fn pb_u32_checked_next_multiple_of(x: u32, y: u32) -> answers::AnswerU32
     ensures { Answers result.ok (pos result.value) (checked_next_multiple_of 32 (pos x) (pos y)) }
 {
-    unsigned32_division::checked_next_multiple_of(x, y)
+    unsigned_division::checked_next_multiple_of(x, y).into()
 }
 
 #[unsafe(no_mangle)]
-pub extern "C" fn pb_u32_checked_div(x: u32, y: u32) -> unsigned32_sums::Checked
+pub extern "C" fn pb_u32_checked_div(x: u32, y: u32) -> answers::AnswerU32
     ensures { Answers result.ok (pos result.value) (checked_div 32 (pos x) (pos y)) }
 {
-    unsigned32_division::checked_div(x, y)
+    unsigned_division::checked_div(x, y).into()
 }
 
 #[unsafe(no_mangle)]
-pub extern "C" fn pb_u32_checked_div_euclid(x: u32, y: u32) -> unsigned32_sums::Checked
+pub extern "C" fn pb_u32_checked_div_euclid(x: u32, y: u32) -> answers::AnswerU32
     ensures { Answers result.ok (pos result.value) (checked_div 32 (pos x) (pos y)) }
 {
-    unsigned32_division::checked_div_euclid(x, y)
+    unsigned_division::checked_div_euclid(x, y).into()
 }
 
 #[unsafe(no_mangle)]
-pub extern "C" fn pb_u32_checked_rem(x: u32, y: u32) -> unsigned32_sums::Checked
+pub extern "C" fn pb_u32_checked_rem(x: u32, y: u32) -> answers::AnswerU32
     ensures { Answers result.ok (pos result.value) (checked_rem 32 (pos x) (pos y)) }
 {
-    unsigned32_division::checked_rem(x, y)
+    unsigned_division::checked_rem(x, y).into()
 }
 
 #[unsafe(no_mangle)]
-pub extern "C" fn pb_u32_checked_rem_euclid(x: u32, y: u32) -> unsigned32_sums::Checked
+pub extern "C" fn pb_u32_checked_rem_euclid(x: u32, y: u32) -> answers::AnswerU32
     ensures { Answers result.ok (pos result.value) (checked_rem 32 (pos x) (pos y)) }
 {
-    unsigned32_division::checked_rem_euclid(x, y)
+    unsigned_division::checked_rem_euclid(x, y).into()
 }
 
 #[unsafe(no_mangle)]
 pub extern "C" fn pb_u32_saturating_add(x: u32, y: u32) -> u32
     ensures { pos result ≡ saturating_add 32 (pos x) (pos y) }
 {
-    unsigned32_sums::saturating_add(x, y)
+    unsigned_sums::saturating_add(x, y)
 }
 
 #[unsafe(no_mangle)]
 pub extern "C" fn pb_u32_saturating_sub(x: u32, y: u32) -> u32
     ensures { pos result ≡ saturating_sub 32 (pos x) (pos y) }
 {
-    unsigned32_sums::saturating_sub(x, y)
+    unsigned_sums::saturating_sub(x, y)
 }
 
 #[unsafe(no_mangle)]
 pub extern "C" fn pb_u32_saturating_mul(x: u32, y: u32) -> u32
     ensures { pos result ≡ saturating_mul 32 (pos x) (pos y) }
 {
-    unsigned32_sums::saturating_mul(x, y)
+    unsigned_sums::saturating_mul(x, y)
 }
 
 #[unsafe(no_mangle)]
 pub extern "C" fn pb_u32_is_multiple_of(x: u32, y: u32) -> bool
     ensures { result ≡ is_multiple_of (pos x) (pos y) }
 {
-    unsigned32_division::is_multiple_of(x, y)
+    unsigned_division::is_multiple_of(x, y)
 }
 
 #[unsafe(no_mangle)]
@@ -154,57 +154,54 @@ pub extern "C" fn pb_u32_clone(x: u32) -> u32
 pub extern "C" fn pb_u32_eq(x: u32, y: u32) -> bool
     ensures { result ≡ eq (pos x) (pos y) }
 {
-    ordering::is_eq(unsigned32_order::compare(x, y))
+    ordering::is_eq(unsigned_order::compare(x, y))
 }
 
 #[unsafe(no_mangle)]
 pub extern "C" fn pb_u32_ne(x: u32, y: u32) -> bool
     ensures { result ≡ ne (pos x) (pos y) }
 {
-    ordering::is_ne(unsigned32_order::compare(x, y))
+    ordering::is_ne(unsigned_order::compare(x, y))
 }
 
 #[unsafe(no_mangle)]
 pub extern "C" fn pb_u32_lt(x: u32, y: u32) -> bool
     ensures { result ≡ lt (pos x) (pos y) }
 {
-    ordering::is_lt(unsigned32_order::compare(x, y))
+    ordering::is_lt(unsigned_order::compare(x, y))
 }
 
 #[unsafe(no_mangle)]
 pub extern "C" fn pb_u32_le(x: u32, y: u32) -> bool
     ensures { result ≡ le (pos x) (pos y) }
 {
-    ordering::is_le(unsigned32_order::compare(x, y))
+    ordering::is_le(unsigned_order::compare(x, y))
 }
 
 #[unsafe(no_mangle)]
 pub extern "C" fn pb_u32_gt(x: u32, y: u32) -> bool
     ensures { result ≡ gt (pos x) (pos y) }
 {
-    ordering::is_gt(unsigned32_order::compare(x, y))
+    ordering::is_gt(unsigned_order::compare(x, y))
 }
 
 #[unsafe(no_mangle)]
 pub extern "C" fn pb_u32_ge(x: u32, y: u32) -> bool
     ensures { result ≡ ge (pos x) (pos y) }
 {
-    ordering::is_ge(unsigned32_order::compare(x, y))
+    ordering::is_ge(unsigned_order::compare(x, y))
 }
 
 #[unsafe(no_mangle)]
 pub extern "C" fn pb_u32_cmp(x: u32, y: u32) -> i8
     ensures { result ≡ numbered (cmp (pos x) (pos y)) }
 {
-    ordering::number(unsigned32_order::compare(x, y))
+    ordering::number(unsigned_order::compare(x, y))
 }
 
 #[unsafe(no_mangle)]
-pub extern "C" fn pb_u32_partial_cmp(x: u32, y: u32) -> ordering::PartialOrdering
-    ensures { Answers result.ok result.value (answered (numbered (cmp (pos x) (pos y)))) }
+pub extern "C" fn pb_u32_partial_cmp(x: u32, y: u32) -> answers::AnswerI8
+    ensures { Answers result.ok result.value (Some (numbered (cmp (pos x) (pos y)))) }
 {
-    ordering::PartialOrdering {
-        ok: true,
-        value: ordering::number(unsigned32_order::compare(x, y)),
-    }
+    Some(ordering::number(unsigned_order::compare(x, y))).into()
 }

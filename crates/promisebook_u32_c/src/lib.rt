@@ -1,8 +1,8 @@
 // The exports of promisebook_u32, as a static library: each has the clauses of the face's function, which it calls.
 #![tactic(auto)]
 
-ghost use Rattle.std.specs.Prelude.{◌≡◌, pos};
-ghost use Rattle.theory_answers.specs.Answer.{Answers, answered};
+ghost use Rattle.std.specs.Prelude.{◌≡◌, pos, Some};
+ghost use Rattle.theory_answers.specs.Answer.{Answers};
 ghost use Rattle.theory_whole.specs.Order.{numbered};
 ghost use Rattle.vstd_integers.specs.Unsigned.{wrapping_add, wrapping_add_signed, wrapping_sub, wrapping_mul, wrapping_shl, wrapping_shr, checked_add};
 ghost use Rattle.vstd_integers.specs.Unsigned.{checked_add_signed, checked_sub, checked_mul, checked_next_multiple_of, checked_div, checked_rem};
@@ -52,63 +52,63 @@ pub extern "C" fn pb_u32_wrapping_shr(x: u32, rhs: u32) -> u32
 }
 
 #[unsafe(no_mangle)]
-pub extern "C" fn pb_u32_checked_add(x: u32, y: u32) -> unsigned32_sums::Checked
+pub extern "C" fn pb_u32_checked_add(x: u32, y: u32) -> answers::AnswerU32
     ensures { Answers result.ok (pos result.value) (checked_add 32 (pos x) (pos y)) }
 {
     promisebook_u32::pb_u32_checked_add(x, y)
 }
 
 #[unsafe(no_mangle)]
-pub extern "C" fn pb_u32_checked_add_signed(x: u32, y: i32) -> unsigned32_sums::Checked
+pub extern "C" fn pb_u32_checked_add_signed(x: u32, y: i32) -> answers::AnswerU32
     ensures { Answers result.ok (pos result.value) (checked_add_signed 32 (pos x) y) }
 {
     promisebook_u32::pb_u32_checked_add_signed(x, y)
 }
 
 #[unsafe(no_mangle)]
-pub extern "C" fn pb_u32_checked_sub(x: u32, y: u32) -> unsigned32_sums::Checked
+pub extern "C" fn pb_u32_checked_sub(x: u32, y: u32) -> answers::AnswerU32
     ensures { Answers result.ok (pos result.value) (checked_sub 32 (pos x) (pos y)) }
 {
     promisebook_u32::pb_u32_checked_sub(x, y)
 }
 
 #[unsafe(no_mangle)]
-pub extern "C" fn pb_u32_checked_mul(x: u32, y: u32) -> unsigned32_sums::Checked
+pub extern "C" fn pb_u32_checked_mul(x: u32, y: u32) -> answers::AnswerU32
     ensures { Answers result.ok (pos result.value) (checked_mul 32 (pos x) (pos y)) }
 {
     promisebook_u32::pb_u32_checked_mul(x, y)
 }
 
 #[unsafe(no_mangle)]
-pub extern "C" fn pb_u32_checked_next_multiple_of(x: u32, y: u32) -> unsigned32_sums::Checked
+pub extern "C" fn pb_u32_checked_next_multiple_of(x: u32, y: u32) -> answers::AnswerU32
     ensures { Answers result.ok (pos result.value) (checked_next_multiple_of 32 (pos x) (pos y)) }
 {
     promisebook_u32::pb_u32_checked_next_multiple_of(x, y)
 }
 
 #[unsafe(no_mangle)]
-pub extern "C" fn pb_u32_checked_div(x: u32, y: u32) -> unsigned32_sums::Checked
+pub extern "C" fn pb_u32_checked_div(x: u32, y: u32) -> answers::AnswerU32
     ensures { Answers result.ok (pos result.value) (checked_div 32 (pos x) (pos y)) }
 {
     promisebook_u32::pb_u32_checked_div(x, y)
 }
 
 #[unsafe(no_mangle)]
-pub extern "C" fn pb_u32_checked_div_euclid(x: u32, y: u32) -> unsigned32_sums::Checked
+pub extern "C" fn pb_u32_checked_div_euclid(x: u32, y: u32) -> answers::AnswerU32
     ensures { Answers result.ok (pos result.value) (checked_div 32 (pos x) (pos y)) }
 {
     promisebook_u32::pb_u32_checked_div_euclid(x, y)
 }
 
 #[unsafe(no_mangle)]
-pub extern "C" fn pb_u32_checked_rem(x: u32, y: u32) -> unsigned32_sums::Checked
+pub extern "C" fn pb_u32_checked_rem(x: u32, y: u32) -> answers::AnswerU32
     ensures { Answers result.ok (pos result.value) (checked_rem 32 (pos x) (pos y)) }
 {
     promisebook_u32::pb_u32_checked_rem(x, y)
 }
 
 #[unsafe(no_mangle)]
-pub extern "C" fn pb_u32_checked_rem_euclid(x: u32, y: u32) -> unsigned32_sums::Checked
+pub extern "C" fn pb_u32_checked_rem_euclid(x: u32, y: u32) -> answers::AnswerU32
     ensures { Answers result.ok (pos result.value) (checked_rem 32 (pos x) (pos y)) }
 {
     promisebook_u32::pb_u32_checked_rem_euclid(x, y)
@@ -199,8 +199,8 @@ pub extern "C" fn pb_u32_cmp(x: u32, y: u32) -> i8
 }
 
 #[unsafe(no_mangle)]
-pub extern "C" fn pb_u32_partial_cmp(x: u32, y: u32) -> ordering::PartialOrdering
-    ensures { Answers result.ok result.value (answered (numbered (cmp (pos x) (pos y)))) }
+pub extern "C" fn pb_u32_partial_cmp(x: u32, y: u32) -> answers::AnswerI8
+    ensures { Answers result.ok result.value (Some (numbered (cmp (pos x) (pos y)))) }
 {
     promisebook_u32::pb_u32_partial_cmp(x, y)
 }

@@ -1,8 +1,8 @@
 // The exports of promisebook_u64, as a static library: each has the clauses of the face's function, which it calls.
 #![tactic(auto)]
 
-ghost use Rattle.std.specs.Prelude.{◌≡◌, pos};
-ghost use Rattle.theory_answers.specs.Answer.{Answers, answered};
+ghost use Rattle.std.specs.Prelude.{◌≡◌, pos, Some};
+ghost use Rattle.theory_answers.specs.Answer.{Answers};
 ghost use Rattle.theory_whole.specs.Order.{numbered};
 ghost use Rattle.vstd_integers.specs.Unsigned.{wrapping_add, wrapping_add_signed, wrapping_sub, wrapping_mul, wrapping_shl, wrapping_shr, checked_add};
 ghost use Rattle.vstd_integers.specs.Unsigned.{checked_add_signed, checked_sub, checked_mul, checked_next_multiple_of, checked_div, checked_rem};
@@ -52,63 +52,63 @@ pub extern "C" fn pb_u64_wrapping_shr(x: u64, rhs: u32) -> u64
 }
 
 #[unsafe(no_mangle)]
-pub extern "C" fn pb_u64_checked_add(x: u64, y: u64) -> unsigned64_sums::Checked
+pub extern "C" fn pb_u64_checked_add(x: u64, y: u64) -> answers::AnswerU64
     ensures { Answers result.ok (pos result.value) (checked_add 64 (pos x) (pos y)) }
 {
     promisebook_u64::pb_u64_checked_add(x, y)
 }
 
 #[unsafe(no_mangle)]
-pub extern "C" fn pb_u64_checked_add_signed(x: u64, y: i64) -> unsigned64_sums::Checked
+pub extern "C" fn pb_u64_checked_add_signed(x: u64, y: i64) -> answers::AnswerU64
     ensures { Answers result.ok (pos result.value) (checked_add_signed 64 (pos x) y) }
 {
     promisebook_u64::pb_u64_checked_add_signed(x, y)
 }
 
 #[unsafe(no_mangle)]
-pub extern "C" fn pb_u64_checked_sub(x: u64, y: u64) -> unsigned64_sums::Checked
+pub extern "C" fn pb_u64_checked_sub(x: u64, y: u64) -> answers::AnswerU64
     ensures { Answers result.ok (pos result.value) (checked_sub 64 (pos x) (pos y)) }
 {
     promisebook_u64::pb_u64_checked_sub(x, y)
 }
 
 #[unsafe(no_mangle)]
-pub extern "C" fn pb_u64_checked_mul(x: u64, y: u64) -> unsigned64_sums::Checked
+pub extern "C" fn pb_u64_checked_mul(x: u64, y: u64) -> answers::AnswerU64
     ensures { Answers result.ok (pos result.value) (checked_mul 64 (pos x) (pos y)) }
 {
     promisebook_u64::pb_u64_checked_mul(x, y)
 }
 
 #[unsafe(no_mangle)]
-pub extern "C" fn pb_u64_checked_next_multiple_of(x: u64, y: u64) -> unsigned64_sums::Checked
+pub extern "C" fn pb_u64_checked_next_multiple_of(x: u64, y: u64) -> answers::AnswerU64
     ensures { Answers result.ok (pos result.value) (checked_next_multiple_of 64 (pos x) (pos y)) }
 {
     promisebook_u64::pb_u64_checked_next_multiple_of(x, y)
 }
 
 #[unsafe(no_mangle)]
-pub extern "C" fn pb_u64_checked_div(x: u64, y: u64) -> unsigned64_sums::Checked
+pub extern "C" fn pb_u64_checked_div(x: u64, y: u64) -> answers::AnswerU64
     ensures { Answers result.ok (pos result.value) (checked_div 64 (pos x) (pos y)) }
 {
     promisebook_u64::pb_u64_checked_div(x, y)
 }
 
 #[unsafe(no_mangle)]
-pub extern "C" fn pb_u64_checked_div_euclid(x: u64, y: u64) -> unsigned64_sums::Checked
+pub extern "C" fn pb_u64_checked_div_euclid(x: u64, y: u64) -> answers::AnswerU64
     ensures { Answers result.ok (pos result.value) (checked_div 64 (pos x) (pos y)) }
 {
     promisebook_u64::pb_u64_checked_div_euclid(x, y)
 }
 
 #[unsafe(no_mangle)]
-pub extern "C" fn pb_u64_checked_rem(x: u64, y: u64) -> unsigned64_sums::Checked
+pub extern "C" fn pb_u64_checked_rem(x: u64, y: u64) -> answers::AnswerU64
     ensures { Answers result.ok (pos result.value) (checked_rem 64 (pos x) (pos y)) }
 {
     promisebook_u64::pb_u64_checked_rem(x, y)
 }
 
 #[unsafe(no_mangle)]
-pub extern "C" fn pb_u64_checked_rem_euclid(x: u64, y: u64) -> unsigned64_sums::Checked
+pub extern "C" fn pb_u64_checked_rem_euclid(x: u64, y: u64) -> answers::AnswerU64
     ensures { Answers result.ok (pos result.value) (checked_rem 64 (pos x) (pos y)) }
 {
     promisebook_u64::pb_u64_checked_rem_euclid(x, y)
@@ -199,8 +199,8 @@ pub extern "C" fn pb_u64_cmp(x: u64, y: u64) -> i8
 }
 
 #[unsafe(no_mangle)]
-pub extern "C" fn pb_u64_partial_cmp(x: u64, y: u64) -> ordering::PartialOrdering
-    ensures { Answers result.ok result.value (answered (numbered (cmp (pos x) (pos y)))) }
+pub extern "C" fn pb_u64_partial_cmp(x: u64, y: u64) -> answers::AnswerI8
+    ensures { Answers result.ok result.value (Some (numbered (cmp (pos x) (pos y)))) }
 {
     promisebook_u64::pb_u64_partial_cmp(x, y)
 }

@@ -2,8 +2,8 @@
 // call of ours.
 #![tactic(auto)]
 
-ghost use Rattle.std.specs.Prelude.{◌≡◌, pos};
-ghost use Rattle.theory_answers.specs.Answer.{Answers, answered};
+ghost use Rattle.std.specs.Prelude.{◌≡◌, pos, Some};
+ghost use Rattle.theory_answers.specs.Answer.{Answers};
 ghost use Rattle.theory_whole.specs.Order.{numbered};
 ghost use Rattle.vstd_integers.specs.Unsigned.{wrapping_add, wrapping_add_signed, wrapping_sub, wrapping_mul, wrapping_shl, wrapping_shr, checked_add};
 ghost use Rattle.vstd_integers.specs.Unsigned.{checked_add_signed, checked_sub, checked_mul, checked_next_multiple_of, checked_div, checked_rem};
@@ -14,133 +14,133 @@ ghost use Rattle.vstd_integers.specs.Compare.{clone, eq, ne, cmp, lt, le, gt, ge
 pub extern "C" fn pb_u8_wrapping_add(x: u8, y: u8) -> u8
     ensures { pos result ≡ wrapping_add 8 (pos x) (pos y) }
 {
-    unsigned8_sums::wrapping_add(x, y)
+    unsigned_sums::wrapping_add(x, y)
 }
 
 #[unsafe(no_mangle)]
 pub extern "C" fn pb_u8_wrapping_add_signed(x: u8, y: i8) -> u8
     ensures { pos result ≡ wrapping_add_signed 8 (pos x) y }
 {
-    unsigned8_sums::wrapping_add_signed(x, y)
+    signed_sums::wrapping_add_signed(x, y)
 }
 
 #[unsafe(no_mangle)]
 pub extern "C" fn pb_u8_wrapping_sub(x: u8, y: u8) -> u8
     ensures { pos result ≡ wrapping_sub 8 (pos x) (pos y) }
 {
-    unsigned8_sums::wrapping_sub(x, y)
+    unsigned_sums::wrapping_sub(x, y)
 }
 
 #[unsafe(no_mangle)]
 pub extern "C" fn pb_u8_wrapping_mul(x: u8, y: u8) -> u8
     ensures { pos result ≡ wrapping_mul 8 (pos x) (pos y) }
 {
-    unsigned8_sums::wrapping_mul(x, y)
+    unsigned_sums::wrapping_mul(x, y)
 }
 
 #[unsafe(no_mangle)]
 pub extern "C" fn pb_u8_wrapping_shl(x: u8, rhs: u32) -> u8
     ensures { pos result ≡ wrapping_shl 8 (pos x) rhs }
 {
-    unsigned8_bits::wrapping_shl(x, rhs)
+    unsigned_bits::wrapping_shl(x, rhs)
 }
 
 #[unsafe(no_mangle)]
 pub extern "C" fn pb_u8_wrapping_shr(x: u8, rhs: u32) -> u8
     ensures { pos result ≡ wrapping_shr 8 (pos x) rhs }
 {
-    unsigned8_bits::wrapping_shr(x, rhs)
+    unsigned_bits::wrapping_shr(x, rhs)
 }
 
 #[unsafe(no_mangle)]
-pub extern "C" fn pb_u8_checked_add(x: u8, y: u8) -> unsigned8_sums::Checked
+pub extern "C" fn pb_u8_checked_add(x: u8, y: u8) -> answers::AnswerU8
     ensures { Answers result.ok (pos result.value) (checked_add 8 (pos x) (pos y)) }
 {
-    unsigned8_sums::checked_add(x, y)
+    unsigned_sums::checked_add(x, y).into()
 }
 
 #[unsafe(no_mangle)]
-pub extern "C" fn pb_u8_checked_add_signed(x: u8, y: i8) -> unsigned8_sums::Checked
+pub extern "C" fn pb_u8_checked_add_signed(x: u8, y: i8) -> answers::AnswerU8
     ensures { Answers result.ok (pos result.value) (checked_add_signed 8 (pos x) y) }
 {
-    unsigned8_sums::checked_add_signed(x, y)
+    signed_sums::checked_add_signed(x, y).into()
 }
 
 #[unsafe(no_mangle)]
-pub extern "C" fn pb_u8_checked_sub(x: u8, y: u8) -> unsigned8_sums::Checked
+pub extern "C" fn pb_u8_checked_sub(x: u8, y: u8) -> answers::AnswerU8
     ensures { Answers result.ok (pos result.value) (checked_sub 8 (pos x) (pos y)) }
 {
-    unsigned8_sums::checked_sub(x, y)
+    unsigned_sums::checked_sub(x, y).into()
 }
 
 #[unsafe(no_mangle)]
-pub extern "C" fn pb_u8_checked_mul(x: u8, y: u8) -> unsigned8_sums::Checked
+pub extern "C" fn pb_u8_checked_mul(x: u8, y: u8) -> answers::AnswerU8
     ensures { Answers result.ok (pos result.value) (checked_mul 8 (pos x) (pos y)) }
 {
-    unsigned8_sums::checked_mul(x, y)
+    unsigned_sums::checked_mul(x, y).into()
 }
 
 #[unsafe(no_mangle)]
-pub extern "C" fn pb_u8_checked_next_multiple_of(x: u8, y: u8) -> unsigned8_sums::Checked
+pub extern "C" fn pb_u8_checked_next_multiple_of(x: u8, y: u8) -> answers::AnswerU8
     ensures { Answers result.ok (pos result.value) (checked_next_multiple_of 8 (pos x) (pos y)) }
 {
-    unsigned8_division::checked_next_multiple_of(x, y)
+    unsigned_division::checked_next_multiple_of(x, y).into()
 }
 
 #[unsafe(no_mangle)]
-pub extern "C" fn pb_u8_checked_div(x: u8, y: u8) -> unsigned8_sums::Checked
+pub extern "C" fn pb_u8_checked_div(x: u8, y: u8) -> answers::AnswerU8
     ensures { Answers result.ok (pos result.value) (checked_div 8 (pos x) (pos y)) }
 {
-    unsigned8_division::checked_div(x, y)
+    unsigned_division::checked_div(x, y).into()
 }
 
 #[unsafe(no_mangle)]
-pub extern "C" fn pb_u8_checked_div_euclid(x: u8, y: u8) -> unsigned8_sums::Checked
+pub extern "C" fn pb_u8_checked_div_euclid(x: u8, y: u8) -> answers::AnswerU8
     ensures { Answers result.ok (pos result.value) (checked_div 8 (pos x) (pos y)) }
 {
-    unsigned8_division::checked_div_euclid(x, y)
+    unsigned_division::checked_div_euclid(x, y).into()
 }
 
 #[unsafe(no_mangle)]
-pub extern "C" fn pb_u8_checked_rem(x: u8, y: u8) -> unsigned8_sums::Checked
+pub extern "C" fn pb_u8_checked_rem(x: u8, y: u8) -> answers::AnswerU8
     ensures { Answers result.ok (pos result.value) (checked_rem 8 (pos x) (pos y)) }
 {
-    unsigned8_division::checked_rem(x, y)
+    unsigned_division::checked_rem(x, y).into()
 }
 
 #[unsafe(no_mangle)]
-pub extern "C" fn pb_u8_checked_rem_euclid(x: u8, y: u8) -> unsigned8_sums::Checked
+pub extern "C" fn pb_u8_checked_rem_euclid(x: u8, y: u8) -> answers::AnswerU8
     ensures { Answers result.ok (pos result.value) (checked_rem 8 (pos x) (pos y)) }
 {
-    unsigned8_division::checked_rem_euclid(x, y)
+    unsigned_division::checked_rem_euclid(x, y).into()
 }
 
 #[unsafe(no_mangle)]
 pub extern "C" fn pb_u8_saturating_add(x: u8, y: u8) -> u8
     ensures { pos result ≡ saturating_add 8 (pos x) (pos y) }
 {
-    unsigned8_sums::saturating_add(x, y)
+    unsigned_sums::saturating_add(x, y)
 }
 
 #[unsafe(no_mangle)]
 pub extern "C" fn pb_u8_saturating_sub(x: u8, y: u8) -> u8
     ensures { pos result ≡ saturating_sub 8 (pos x) (pos y) }
 {
-    unsigned8_sums::saturating_sub(x, y)
+    unsigned_sums::saturating_sub(x, y)
 }
 
 #[unsafe(no_mangle)]
 pub extern "C" fn pb_u8_saturating_mul(x: u8, y: u8) -> u8
     ensures { pos result ≡ saturating_mul 8 (pos x) (pos y) }
 {
-    unsigned8_sums::saturating_mul(x, y)
+    unsigned_sums::saturating_mul(x, y)
 }
 
 #[unsafe(no_mangle)]
 pub extern "C" fn pb_u8_is_multiple_of(x: u8, y: u8) -> bool
     ensures { result ≡ is_multiple_of (pos x) (pos y) }
 {
-    unsigned8_division::is_multiple_of(x, y)
+    unsigned_division::is_multiple_of(x, y)
 }
 
 #[unsafe(no_mangle)]
@@ -154,57 +154,54 @@ pub extern "C" fn pb_u8_clone(x: u8) -> u8
 pub extern "C" fn pb_u8_eq(x: u8, y: u8) -> bool
     ensures { result ≡ eq (pos x) (pos y) }
 {
-    ordering::is_eq(unsigned8_order::compare(x, y))
+    ordering::is_eq(unsigned_order::compare(x, y))
 }
 
 #[unsafe(no_mangle)]
 pub extern "C" fn pb_u8_ne(x: u8, y: u8) -> bool
     ensures { result ≡ ne (pos x) (pos y) }
 {
-    ordering::is_ne(unsigned8_order::compare(x, y))
+    ordering::is_ne(unsigned_order::compare(x, y))
 }
 
 #[unsafe(no_mangle)]
 pub extern "C" fn pb_u8_lt(x: u8, y: u8) -> bool
     ensures { result ≡ lt (pos x) (pos y) }
 {
-    ordering::is_lt(unsigned8_order::compare(x, y))
+    ordering::is_lt(unsigned_order::compare(x, y))
 }
 
 #[unsafe(no_mangle)]
 pub extern "C" fn pb_u8_le(x: u8, y: u8) -> bool
     ensures { result ≡ le (pos x) (pos y) }
 {
-    ordering::is_le(unsigned8_order::compare(x, y))
+    ordering::is_le(unsigned_order::compare(x, y))
 }
 
 #[unsafe(no_mangle)]
 pub extern "C" fn pb_u8_gt(x: u8, y: u8) -> bool
     ensures { result ≡ gt (pos x) (pos y) }
 {
-    ordering::is_gt(unsigned8_order::compare(x, y))
+    ordering::is_gt(unsigned_order::compare(x, y))
 }
 
 #[unsafe(no_mangle)]
 pub extern "C" fn pb_u8_ge(x: u8, y: u8) -> bool
     ensures { result ≡ ge (pos x) (pos y) }
 {
-    ordering::is_ge(unsigned8_order::compare(x, y))
+    ordering::is_ge(unsigned_order::compare(x, y))
 }
 
 #[unsafe(no_mangle)]
 pub extern "C" fn pb_u8_cmp(x: u8, y: u8) -> i8
     ensures { result ≡ numbered (cmp (pos x) (pos y)) }
 {
-    ordering::number(unsigned8_order::compare(x, y))
+    ordering::number(unsigned_order::compare(x, y))
 }
 
 #[unsafe(no_mangle)]
-pub extern "C" fn pb_u8_partial_cmp(x: u8, y: u8) -> ordering::PartialOrdering
-    ensures { Answers result.ok result.value (answered (numbered (cmp (pos x) (pos y)))) }
+pub extern "C" fn pb_u8_partial_cmp(x: u8, y: u8) -> answers::AnswerI8
+    ensures { Answers result.ok result.value (Some (numbered (cmp (pos x) (pos y)))) }
 {
-    ordering::PartialOrdering {
-        ok: true,
-        value: ordering::number(unsigned8_order::compare(x, y)),
-    }
+    Some(ordering::number(unsigned_order::compare(x, y))).into()
 }

@@ -1,8 +1,8 @@
 // The exports of promisebook_u8, as a static library: each has the clauses of the face's function, which it calls.
 #![tactic(auto)]
 
-ghost use Rattle.std.specs.Prelude.{◌≡◌, pos};
-ghost use Rattle.theory_answers.specs.Answer.{Answers, answered};
+ghost use Rattle.std.specs.Prelude.{◌≡◌, pos, Some};
+ghost use Rattle.theory_answers.specs.Answer.{Answers};
 ghost use Rattle.theory_whole.specs.Order.{numbered};
 ghost use Rattle.vstd_integers.specs.Unsigned.{wrapping_add, wrapping_add_signed, wrapping_sub, wrapping_mul, wrapping_shl, wrapping_shr, checked_add};
 ghost use Rattle.vstd_integers.specs.Unsigned.{checked_add_signed, checked_sub, checked_mul, checked_next_multiple_of, checked_div, checked_rem};
@@ -52,63 +52,63 @@ pub extern "C" fn pb_u8_wrapping_shr(x: u8, rhs: u32) -> u8
 }
 
 #[unsafe(no_mangle)]
-pub extern "C" fn pb_u8_checked_add(x: u8, y: u8) -> unsigned8_sums::Checked
+pub extern "C" fn pb_u8_checked_add(x: u8, y: u8) -> answers::AnswerU8
     ensures { Answers result.ok (pos result.value) (checked_add 8 (pos x) (pos y)) }
 {
     promisebook_u8::pb_u8_checked_add(x, y)
 }
 
 #[unsafe(no_mangle)]
-pub extern "C" fn pb_u8_checked_add_signed(x: u8, y: i8) -> unsigned8_sums::Checked
+pub extern "C" fn pb_u8_checked_add_signed(x: u8, y: i8) -> answers::AnswerU8
     ensures { Answers result.ok (pos result.value) (checked_add_signed 8 (pos x) y) }
 {
     promisebook_u8::pb_u8_checked_add_signed(x, y)
 }
 
 #[unsafe(no_mangle)]
-pub extern "C" fn pb_u8_checked_sub(x: u8, y: u8) -> unsigned8_sums::Checked
+pub extern "C" fn pb_u8_checked_sub(x: u8, y: u8) -> answers::AnswerU8
     ensures { Answers result.ok (pos result.value) (checked_sub 8 (pos x) (pos y)) }
 {
     promisebook_u8::pb_u8_checked_sub(x, y)
 }
 
 #[unsafe(no_mangle)]
-pub extern "C" fn pb_u8_checked_mul(x: u8, y: u8) -> unsigned8_sums::Checked
+pub extern "C" fn pb_u8_checked_mul(x: u8, y: u8) -> answers::AnswerU8
     ensures { Answers result.ok (pos result.value) (checked_mul 8 (pos x) (pos y)) }
 {
     promisebook_u8::pb_u8_checked_mul(x, y)
 }
 
 #[unsafe(no_mangle)]
-pub extern "C" fn pb_u8_checked_next_multiple_of(x: u8, y: u8) -> unsigned8_sums::Checked
+pub extern "C" fn pb_u8_checked_next_multiple_of(x: u8, y: u8) -> answers::AnswerU8
     ensures { Answers result.ok (pos result.value) (checked_next_multiple_of 8 (pos x) (pos y)) }
 {
     promisebook_u8::pb_u8_checked_next_multiple_of(x, y)
 }
 
 #[unsafe(no_mangle)]
-pub extern "C" fn pb_u8_checked_div(x: u8, y: u8) -> unsigned8_sums::Checked
+pub extern "C" fn pb_u8_checked_div(x: u8, y: u8) -> answers::AnswerU8
     ensures { Answers result.ok (pos result.value) (checked_div 8 (pos x) (pos y)) }
 {
     promisebook_u8::pb_u8_checked_div(x, y)
 }
 
 #[unsafe(no_mangle)]
-pub extern "C" fn pb_u8_checked_div_euclid(x: u8, y: u8) -> unsigned8_sums::Checked
+pub extern "C" fn pb_u8_checked_div_euclid(x: u8, y: u8) -> answers::AnswerU8
     ensures { Answers result.ok (pos result.value) (checked_div 8 (pos x) (pos y)) }
 {
     promisebook_u8::pb_u8_checked_div_euclid(x, y)
 }
 
 #[unsafe(no_mangle)]
-pub extern "C" fn pb_u8_checked_rem(x: u8, y: u8) -> unsigned8_sums::Checked
+pub extern "C" fn pb_u8_checked_rem(x: u8, y: u8) -> answers::AnswerU8
     ensures { Answers result.ok (pos result.value) (checked_rem 8 (pos x) (pos y)) }
 {
     promisebook_u8::pb_u8_checked_rem(x, y)
 }
 
 #[unsafe(no_mangle)]
-pub extern "C" fn pb_u8_checked_rem_euclid(x: u8, y: u8) -> unsigned8_sums::Checked
+pub extern "C" fn pb_u8_checked_rem_euclid(x: u8, y: u8) -> answers::AnswerU8
     ensures { Answers result.ok (pos result.value) (checked_rem 8 (pos x) (pos y)) }
 {
     promisebook_u8::pb_u8_checked_rem_euclid(x, y)
@@ -199,8 +199,8 @@ pub extern "C" fn pb_u8_cmp(x: u8, y: u8) -> i8
 }
 
 #[unsafe(no_mangle)]
-pub extern "C" fn pb_u8_partial_cmp(x: u8, y: u8) -> ordering::PartialOrdering
-    ensures { Answers result.ok result.value (answered (numbered (cmp (pos x) (pos y)))) }
+pub extern "C" fn pb_u8_partial_cmp(x: u8, y: u8) -> answers::AnswerI8
+    ensures { Answers result.ok result.value (Some (numbered (cmp (pos x) (pos y)))) }
 {
     promisebook_u8::pb_u8_partial_cmp(x, y)
 }

@@ -1,12 +1,9 @@
-use mathlib.Core.Path.{subst}
 use mir.Syntax.{w64}
 use mir.Facts.{to_z-of_z}
-use lib.IntN.{ℤ}
-use Rattle.theory_decimal.specs.Written.{whole, Shows}
+use Rattle.theory_decimal.proofs.Showing.{flagged_shows}
 use Rattle.promisebook_decimal.proofs.pb_i64_write_decimal.Goals as goal
 
 pub returns : goal.returns
 returns c =
-    let written = c.write_i64 in
-    subst (λ (z : ℤ). Shows written.result.ok written.result.value c.args.s.now c.args.at (whole z) written.new.out)
-    (to_z-of_z {w = w64} c.ranges.x) written.ensures
+    let written = rw (to_z-of_z {w = w64} c.ranges.x) at c.write_signed.ensures in
+    flagged_shows _ _ c.write_signed.result _ _ _ _ written c.into.ensures

@@ -1,5 +1,7 @@
+use mathlib.Core.Path.{refl, ◌∙◌}
 use mir.Syntax.{w32}
 use mir.Facts.{to_z-of_z}
+use Rattle.theory_answers.proofs.Flag.{flagged_answers}
 use Rattle.theory_machine.proofs.Bits.{some_bits, in_signed}
 use Rattle.vstd_integers.proofs.Signed.{checked_mul_kept}
 use Rattle.promisebook_i32.proofs.pb_i32_checked_mul.Goals as goal
@@ -7,4 +9,5 @@ use Rattle.promisebook_i32.proofs.pb_i32_checked_mul.Goals as goal
 pub returns : goal.returns
 returns c =
     let f = c.ranges in
-    rw (to_z-of_z f.x, to_z-of_z f.y, checked_mul_kept 32 (some_bits w32) (in_signed w32 f.x) (in_signed w32 f.y)) at c.checked_mul.ensures
+    let e = rw (to_z-of_z f.x, to_z-of_z f.y) at c.checked_mul.ensures in
+    flagged_answers (λ z. z) refl _ _ _ _ (e ∙ checked_mul_kept 32 (some_bits w32) (in_signed w32 f.x) (in_signed w32 f.y)) c.into.ensures

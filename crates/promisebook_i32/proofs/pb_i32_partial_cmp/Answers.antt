@@ -1,4 +1,3 @@
-use mathlib.Core.Path.{refl}
 use mir.Facts.{to_z-of_z}
 use Rattle.theory_machine.proofs.Orders.{number_read}
 use Rattle.vstd_integers.specs.Compare.{cmp}
@@ -6,8 +5,5 @@ use Rattle.vstd_integers.proofs.Compare.{cmp_kept}
 use Rattle.promisebook_i32.proofs.pb_i32_partial_cmp.Goals as goal
 
 pub returns : goal.returns
-returns c = (
-  refl,
-  rw (c.number.ensures, c.compare.ensures, to_z-of_z c.ranges.x, to_z-of_z c.ranges.y, cmp_kept c.args.x c.args.y)
-      (number_read (cmp c.args.x c.args.y)),
-)
+returns c =
+    rw (c.number.ensures, c.compare.ensures, to_z-of_z c.ranges.x, to_z-of_z c.ranges.y, cmp_kept c.args.x c.args.y, number_read (cmp c.args.x c.args.y)) at c.into.ensures

@@ -1,5 +1,6 @@
+use Rattle.theory_answers.proofs.Flag.{flagged_tells}
 use Rattle.vstd_slices.proofs.Promised.{ends_with_promised}
 use Rattle.promisebook_slices.proofs.pb_bytes_ends_with.Goals as goal
 
 pub returns : goal.returns
-returns c = let a = c.args in ends_with_promised c.ends_with.result.value a.needle.now c.ends_with.ensures
+returns c = ends_with_promised c.into.result.value c.args.needle.now (flagged_tells c.into.result.ok _ c.ends_with.result c.ends_with.ensures c.into.ensures)

@@ -1,5 +1,10 @@
+use mathlib.Core.Path.{refl, ◌∙◌}
+use lib.IntN.{pos}
+use Rattle.theory_answers.proofs.Flag.{flagged_answers}
 use Rattle.vstd_integers.proofs.Unsigned.{checked_sub_kept}
 use Rattle.promisebook_u16.proofs.pb_u16_checked_sub.Goals as goal
 
 pub returns : goal.returns
-returns c = let f = c.ranges in rw (checked_sub_kept 16 f.x.fits f.y.fits) at c.checked_sub.ensures
+returns c =
+    let f = c.ranges in
+    flagged_answers pos refl _ _ _ _ (c.checked_sub.ensures ∙ checked_sub_kept 16 f.x.fits f.y.fits) c.into.ensures

@@ -1,4 +1,3 @@
-use mathlib.Core.Path.{refl}
 use lib.IntN.{pos}
 use Rattle.theory_machine.proofs.Orders.{number_read}
 use Rattle.vstd_integers.specs.Compare.{cmp}
@@ -8,4 +7,4 @@ use Rattle.promisebook_u8.proofs.pb_u8_partial_cmp.Goals as goal
 pub returns : goal.returns
 returns c =
     let a = c.args in
-    (refl, rw (c.number.ensures, c.compare.ensures, cmp_kept (pos a.x) (pos a.y)) (number_read (cmp (pos a.x) (pos a.y))))
+    rw (c.number.ensures, c.compare.ensures, cmp_kept (pos a.x) (pos a.y), number_read (cmp (pos a.x) (pos a.y))) at c.into.ensures

@@ -3,4 +3,4 @@ use Rattle.vstd_zeros.proofs.Zeros.{vstd_leading_zeros_is}
 use Rattle.promisebook_zeros.proofs.pb_u32_leading_zeros.Goals as goal
 
 pub returns : goal.returns
-returns c = c.leading_zeros_u32.ensures ∙ sym (vstd_leading_zeros_is 32 _ c.ranges.i.fits)
+returns c = c.leading_zeros.ensures ∙ sym (vstd_leading_zeros_is 32 _ c.ranges.i.fits)

@@ -3,4 +3,4 @@ use Rattle.vstd_zeros.proofs.Zeros.{vstd_trailing_ones_is}
 use Rattle.promisebook_zeros.proofs.pb_u32_trailing_ones.Goals as goal
 
 pub returns : goal.returns
-returns c = c.trailing_ones_u32.ensures ∙ sym (vstd_trailing_ones_is 32 _ c.ranges.i.fits)
+returns c = c.trailing_ones.ensures ∙ sym (vstd_trailing_ones_is 32 _ c.ranges.i.fits)

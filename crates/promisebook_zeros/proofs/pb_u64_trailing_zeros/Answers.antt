@@ -3,4 +3,4 @@ use Rattle.vstd_zeros.proofs.Zeros.{vstd_trailing_zeros_is}
 use Rattle.promisebook_zeros.proofs.pb_u64_trailing_zeros.Goals as goal
 
 pub returns : goal.returns
-returns c = c.trailing_zeros_u64.ensures ∙ sym (vstd_trailing_zeros_is 64 _ c.ranges.i.fits)
+returns c = c.trailing_zeros.ensures ∙ sym (vstd_trailing_zeros_is 64 _ c.ranges.i.fits)

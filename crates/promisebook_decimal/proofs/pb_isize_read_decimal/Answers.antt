@@ -1,0 +1,6 @@
+use mathlib.Core.Path.{refl}
+use Rattle.theory_answers.proofs.Flag.{flagged_answers}
+use Rattle.promisebook_decimal.proofs.pb_isize_read_decimal.Goals as goal
+
+pub returns : goal.returns
+returns c = flagged_answers (λ z. z) refl _ _ _ _ c.read.ensures c.into.ensures
