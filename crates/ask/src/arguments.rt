@@ -1,19 +1,7 @@
 // The arguments as one question: joined by single spaces. A person asks so, and is told on standard error why a question has no answer.
-use questions::answers;
+use crate::lines::{Answers, one_line};
 use std::env::{Env, FillError};
 use std::io::Write;
-
-// The bytes of the question so far; not ok where there are more than a line can hold.
-#[derive(Clone, Copy)]
-struct Joined {
-    ok: bool,
-    length: usize,
-}
-
-const TOO_LONG: Joined = Joined {
-    ok: false,
-    length: 0,
-};
 
 // Whether there is an argument with that number, 0 being the program's name.
 pub fn is_there<E: Env>(env: &E, i: usize) -> bool {
@@ -23,78 +11,56 @@ pub fn is_there<E: Env>(env: &E, i: usize) -> bool {
 
 // Where a write fails there is nobody to tell: the rest is not written.
 pub fn answer<E: Env, W: Write, X: Write>(env: &E, output: &mut W, errors: &mut X) {
-    let mut line = crate::lines::one_line();
-    let question = join_all(env, &mut line);
-    let n = question.length;
-    if n <= 65536 {
-        reply(output, errors, question.ok, &line[0..n]);
-    }
-}
-
-fn reply<W: Write, X: Write>(output: &mut W, errors: &mut X, ok: bool, line: &[u8]) {
-    let help = promisebook_slices::pb_bytes_equal(line, 0, line.len(), b"--help");
-    if help.value {
+    let mut line = one_line();
+    let question = match join_all(env, &mut line) {
+        Some(n) => line.get(..n),
+        None => None,
+    };
+    if question == Some(b"--help") {
         let _ = crate::help::print(output);
     } else {
-        one_line(output, errors, ok, line);
+        reply(output, errors, question);
     }
 }
 
-fn one_line<W: Write, X: Write>(output: &mut W, errors: &mut X, ok: bool, line: &[u8]) {
-    let mut out = crate::lines::two_lines();
-    let end = one_answer(ok, line, &mut out);
-    if end <= 131072 {
-        let _ = output.write_all(&out[0..end]);
-    }
-    if ok {
-        let _ = reasons::tell(errors, line);
-    } else {
-        let _ = reasons::tell_too_long(errors);
-    }
+// None is a question that is too long.
+fn reply<W: Write, X: Write>(output: &mut W, errors: &mut X, question: Option<&[u8]>) {
+    let mut answers = Answers::none();
+    answers.add(question);
+    let _ = answers.write_out(output);
+    let _ = match question {
+        Some(line) => reasons::tell(errors, line),
+        None => reasons::tell_too_long(errors),
+    };
 }
 
-fn one_answer(ok: bool, line: &[u8], out: &mut [u8]) -> usize {
-    if ok {
-        let end = questions::answer(line, out, 0);
-        return answers::line_end(out, end);
-    }
-    let end = answers::malformed(out, 0);
-    answers::line_end(out, end)
-}
-
-fn join_all<E: Env>(env: &E, line: &mut [u8]) -> Joined {
-    let mut question = next_argument(env, line, 0, 1);
+// How many bytes the question has; None where a line cannot hold them.
+fn join_all<E: Env>(env: &E, line: &mut [u8]) -> Option<usize> {
+    let mut length = next_argument(env, line, 0, 1)?;
     for i in 2..usize::MAX {
         if !is_there(env, i) {
             break;
         }
-        question = behind_space(env, line, question, i);
+        length = behind_space(env, line, length, i)?;
     }
-    question
+    Some(length)
 }
 
-fn behind_space<E: Env>(env: &E, line: &mut [u8], question: Joined, i: usize) -> Joined {
-    let at = question.length;
-    if !question.ok {
-        return TOO_LONG;
-    }
-    let next = spelled::words(line, at, b" ");
+fn behind_space<E: Env>(env: &E, line: &mut [u8], at: usize, i: usize) -> Option<usize> {
+    let next = spelled::words(line, at, " ");
     if next == at {
-        return TOO_LONG;
+        return None;
     }
     next_argument(env, line, next, i)
 }
 
-fn next_argument<E: Env>(env: &E, line: &mut [u8], at: usize, i: usize) -> Joined {
+fn next_argument<E: Env>(env: &E, line: &mut [u8], at: usize, i: usize) -> Option<usize> {
     if line.len() < at {
-        return TOO_LONG;
+        return None;
     }
     let left = line.len() - at;
     match env.arg(i, &mut line[at..]) {
-        Ok(n) if n <= left => Joined {
-            ok: true,
-            length: at + n,
-        },
-        _ => TOO_LONG,
+        Ok(n) if n <= left => Some(at + n),
+        _ => None,
     }
 }

@@ -9,6 +9,6 @@ fn main(rt: HostRuntime) {
     if arguments::is_there(&rt, 1) {
         arguments::answer(&rt, &mut rt.stdout(), &mut rt.stderr());
     } else {
-        lines::answer_all(&mut rt.stdin(), &mut rt.stdout());
+        let _ = lines::answer_all(&mut rt.stdin(), &mut rt.stdout());
     }
 }

@@ -1,64 +1,28 @@
 // Every NAME there is: which kind or family it names, and which operation of it.
-use words::line::Word;
-use words::list;
+use numbered::{Group, Name, Operation};
 
-// What a NAME says.
-#[derive(Clone, Copy)]
-pub struct Name {
-    pub ok: bool,
-    pub kind: u8,
-    pub operation: u8,
+// What the word is the name of, if it is one. Operations of several groups may share a name.
+pub fn read(word: &[u8]) -> Option<Name> {
+    let mut parts = word.splitn(2, |b| *b == b'.');
+    let group = group(parts.next()?)?;
+    operation(group, parts.next()?)
 }
 
-const UNKNOWN: Name = Name {
-    ok: false,
-    kind: 0,
-    operation: 0,
-};
-
-// What the word is the name of, if it is one.
-pub fn read(line: &[u8], word: Word) -> Name {
-    let from = word.from;
-    let to = word.to;
-    if to < from {
-        return UNKNOWN;
+fn group(name: &[u8]) -> Option<Group> {
+    for group in Group::ALL {
+        if group.name().as_bytes() == name {
+            return Some(group);
+        }
     }
-    if line.len() < to {
-        return UNKNOWN;
-    }
-    meant(&line[from..to])
+    None
 }
 
-fn meant(name: &[u8]) -> Name {
-    let dot = words::places::first_from(name, 0, b'.');
-    if dot == name.len() {
-        return UNKNOWN;
-    }
-    let next = dot + 1;
-    let kind = list::number_in(&numbered::GROUPS, &name[0..dot], 0);
-    let operation = operation_of(&numbered::NAMES, kind, &name[next..]);
-    Name {
-        ok: operation != list::NONE,
-        kind,
-        operation,
-    }
-}
-
-// The operation of that name in the list which the kind has; several may share a name.
-fn operation_of(names: &[u8], kind: u8, name: &[u8]) -> u8 {
-    let mut start = 0;
-    while start < list::NONE {
-        let number = list::number_in(names, name, start);
-        if number < start {
-            return list::NONE;
+fn operation(group: Group, word: &[u8]) -> Option<Name> {
+    for operation in Operation::ALL {
+        let name = Name { group, operation };
+        if operation.name().as_bytes() == word && name.is_there() {
+            return Some(name);
         }
-        if number == list::NONE {
-            return list::NONE;
-        }
-        if numbered::has(kind, number) {
-            return number;
-        }
-        start = number + 1;
     }
-    list::NONE
+    None
 }

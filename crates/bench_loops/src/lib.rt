@@ -6,12 +6,11 @@
 #[unsafe(no_mangle)]
 pub extern "C" fn loop_i32_checked_add(xs: &[i32]) -> i32 {
     let mut sum: i32 = 0;
-    for i in 0..xs.len() {
-        let next = signed32_sums::checked_add(sum, xs[i]);
-        if !next.ok {
-            return 0;
+    for x in xs {
+        match signed_sums::checked_add(sum, *x) {
+            Some(next) => sum = next,
+            None => return 0,
         }
-        sum = next.value;
     }
     sum
 }
@@ -19,12 +18,11 @@ pub extern "C" fn loop_i32_checked_add(xs: &[i32]) -> i32 {
 #[unsafe(no_mangle)]
 pub extern "C" fn loop_i32_checked_mul(xs: &[i32]) -> i32 {
     let mut product: i32 = 1;
-    for i in 0..xs.len() {
-        let next = signed32_sums::checked_mul(product, xs[i]);
-        if !next.ok {
-            return 0;
+    for x in xs {
+        match signed_sums::checked_mul(product, *x) {
+            Some(next) => product = next,
+            None => return 0,
         }
-        product = next.value;
     }
     product
 }
@@ -32,8 +30,8 @@ pub extern "C" fn loop_i32_checked_mul(xs: &[i32]) -> i32 {
 #[unsafe(no_mangle)]
 pub extern "C" fn loop_i32_wrapping_add(xs: &[i32]) -> i32 {
     let mut sum: i32 = 0;
-    for i in 0..xs.len() {
-        sum = signed32_sums::wrapping_add(sum, xs[i]);
+    for x in xs {
+        sum = signed_sums::wrapping_add(sum, *x);
     }
     sum
 }
@@ -41,8 +39,8 @@ pub extern "C" fn loop_i32_wrapping_add(xs: &[i32]) -> i32 {
 #[unsafe(no_mangle)]
 pub extern "C" fn loop_i32_wrapping_mul(xs: &[i32]) -> i32 {
     let mut product: i32 = 1;
-    for i in 0..xs.len() {
-        product = signed32_sums::wrapping_mul(product, xs[i]);
+    for x in xs {
+        product = signed_sums::wrapping_mul(product, *x);
     }
     product
 }
@@ -52,12 +50,11 @@ pub extern "C" fn loop_i32_wrapping_mul(xs: &[i32]) -> i32 {
 #[unsafe(no_mangle)]
 pub extern "C" fn loop_i64_checked_add(xs: &[i64]) -> i64 {
     let mut sum: i64 = 0;
-    for i in 0..xs.len() {
-        let next = signed64_sums::checked_add(sum, xs[i]);
-        if !next.ok {
-            return 0;
+    for x in xs {
+        match signed_sums::checked_add(sum, *x) {
+            Some(next) => sum = next,
+            None => return 0,
         }
-        sum = next.value;
     }
     sum
 }
@@ -65,12 +62,11 @@ pub extern "C" fn loop_i64_checked_add(xs: &[i64]) -> i64 {
 #[unsafe(no_mangle)]
 pub extern "C" fn loop_i64_checked_mul(xs: &[i64]) -> i64 {
     let mut product: i64 = 1;
-    for i in 0..xs.len() {
-        let next = signed64_sums::checked_mul(product, xs[i]);
-        if !next.ok {
-            return 0;
+    for x in xs {
+        match signed_sums::checked_mul(product, *x) {
+            Some(next) => product = next,
+            None => return 0,
         }
-        product = next.value;
     }
     product
 }
@@ -78,8 +74,8 @@ pub extern "C" fn loop_i64_checked_mul(xs: &[i64]) -> i64 {
 #[unsafe(no_mangle)]
 pub extern "C" fn loop_i64_wrapping_add(xs: &[i64]) -> i64 {
     let mut sum: i64 = 0;
-    for i in 0..xs.len() {
-        sum = signed64_sums::wrapping_add(sum, xs[i]);
+    for x in xs {
+        sum = signed_sums::wrapping_add(sum, *x);
     }
     sum
 }
@@ -87,8 +83,8 @@ pub extern "C" fn loop_i64_wrapping_add(xs: &[i64]) -> i64 {
 #[unsafe(no_mangle)]
 pub extern "C" fn loop_i64_wrapping_mul(xs: &[i64]) -> i64 {
     let mut product: i64 = 1;
-    for i in 0..xs.len() {
-        product = signed64_sums::wrapping_mul(product, xs[i]);
+    for x in xs {
+        product = signed_sums::wrapping_mul(product, *x);
     }
     product
 }
@@ -98,12 +94,11 @@ pub extern "C" fn loop_i64_wrapping_mul(xs: &[i64]) -> i64 {
 #[unsafe(no_mangle)]
 pub extern "C" fn loop_u32_checked_add(xs: &[u32]) -> u32 {
     let mut sum: u32 = 0;
-    for i in 0..xs.len() {
-        let next = unsigned32_sums::checked_add(sum, xs[i]);
-        if !next.ok {
-            return 0;
+    for x in xs {
+        match unsigned_sums::checked_add(sum, *x) {
+            Some(next) => sum = next,
+            None => return 0,
         }
-        sum = next.value;
     }
     sum
 }
@@ -111,12 +106,11 @@ pub extern "C" fn loop_u32_checked_add(xs: &[u32]) -> u32 {
 #[unsafe(no_mangle)]
 pub extern "C" fn loop_u32_checked_mul(xs: &[u32]) -> u32 {
     let mut product: u32 = 1;
-    for i in 0..xs.len() {
-        let next = unsigned32_sums::checked_mul(product, xs[i]);
-        if !next.ok {
-            return 0;
+    for x in xs {
+        match unsigned_sums::checked_mul(product, *x) {
+            Some(next) => product = next,
+            None => return 0,
         }
-        product = next.value;
     }
     product
 }
@@ -124,8 +118,8 @@ pub extern "C" fn loop_u32_checked_mul(xs: &[u32]) -> u32 {
 #[unsafe(no_mangle)]
 pub extern "C" fn loop_u32_wrapping_add(xs: &[u32]) -> u32 {
     let mut sum: u32 = 0;
-    for i in 0..xs.len() {
-        sum = unsigned32_sums::wrapping_add(sum, xs[i]);
+    for x in xs {
+        sum = unsigned_sums::wrapping_add(sum, *x);
     }
     sum
 }
@@ -133,8 +127,8 @@ pub extern "C" fn loop_u32_wrapping_add(xs: &[u32]) -> u32 {
 #[unsafe(no_mangle)]
 pub extern "C" fn loop_u32_wrapping_mul(xs: &[u32]) -> u32 {
     let mut product: u32 = 1;
-    for i in 0..xs.len() {
-        product = unsigned32_sums::wrapping_mul(product, xs[i]);
+    for x in xs {
+        product = unsigned_sums::wrapping_mul(product, *x);
     }
     product
 }
@@ -142,8 +136,8 @@ pub extern "C" fn loop_u32_wrapping_mul(xs: &[u32]) -> u32 {
 #[unsafe(no_mangle)]
 pub extern "C" fn loop_u32_saturating_add(xs: &[u32]) -> u32 {
     let mut sum: u32 = 0;
-    for i in 0..xs.len() {
-        sum = unsigned32_sums::saturating_add(sum, xs[i]);
+    for x in xs {
+        sum = unsigned_sums::saturating_add(sum, *x);
     }
     sum
 }
@@ -151,8 +145,8 @@ pub extern "C" fn loop_u32_saturating_add(xs: &[u32]) -> u32 {
 #[unsafe(no_mangle)]
 pub extern "C" fn loop_u32_saturating_mul(xs: &[u32]) -> u32 {
     let mut product: u32 = 1;
-    for i in 0..xs.len() {
-        product = unsigned32_sums::saturating_mul(product, xs[i]);
+    for x in xs {
+        product = unsigned_sums::saturating_mul(product, *x);
     }
     product
 }
@@ -162,12 +156,11 @@ pub extern "C" fn loop_u32_saturating_mul(xs: &[u32]) -> u32 {
 #[unsafe(no_mangle)]
 pub extern "C" fn loop_u64_checked_add(xs: &[u64]) -> u64 {
     let mut sum: u64 = 0;
-    for i in 0..xs.len() {
-        let next = unsigned64_sums::checked_add(sum, xs[i]);
-        if !next.ok {
-            return 0;
+    for x in xs {
+        match unsigned_sums::checked_add(sum, *x) {
+            Some(next) => sum = next,
+            None => return 0,
         }
-        sum = next.value;
     }
     sum
 }
@@ -175,12 +168,11 @@ pub extern "C" fn loop_u64_checked_add(xs: &[u64]) -> u64 {
 #[unsafe(no_mangle)]
 pub extern "C" fn loop_u64_checked_mul(xs: &[u64]) -> u64 {
     let mut product: u64 = 1;
-    for i in 0..xs.len() {
-        let next = unsigned64_sums::checked_mul(product, xs[i]);
-        if !next.ok {
-            return 0;
+    for x in xs {
+        match unsigned_sums::checked_mul(product, *x) {
+            Some(next) => product = next,
+            None => return 0,
         }
-        product = next.value;
     }
     product
 }
@@ -188,8 +180,8 @@ pub extern "C" fn loop_u64_checked_mul(xs: &[u64]) -> u64 {
 #[unsafe(no_mangle)]
 pub extern "C" fn loop_u64_wrapping_add(xs: &[u64]) -> u64 {
     let mut sum: u64 = 0;
-    for i in 0..xs.len() {
-        sum = unsigned64_sums::wrapping_add(sum, xs[i]);
+    for x in xs {
+        sum = unsigned_sums::wrapping_add(sum, *x);
     }
     sum
 }
@@ -197,8 +189,8 @@ pub extern "C" fn loop_u64_wrapping_add(xs: &[u64]) -> u64 {
 #[unsafe(no_mangle)]
 pub extern "C" fn loop_u64_wrapping_mul(xs: &[u64]) -> u64 {
     let mut product: u64 = 1;
-    for i in 0..xs.len() {
-        product = unsigned64_sums::wrapping_mul(product, xs[i]);
+    for x in xs {
+        product = unsigned_sums::wrapping_mul(product, *x);
     }
     product
 }
@@ -206,8 +198,8 @@ pub extern "C" fn loop_u64_wrapping_mul(xs: &[u64]) -> u64 {
 #[unsafe(no_mangle)]
 pub extern "C" fn loop_u64_saturating_add(xs: &[u64]) -> u64 {
     let mut sum: u64 = 0;
-    for i in 0..xs.len() {
-        sum = unsigned64_sums::saturating_add(sum, xs[i]);
+    for x in xs {
+        sum = unsigned_sums::saturating_add(sum, *x);
     }
     sum
 }
@@ -215,8 +207,8 @@ pub extern "C" fn loop_u64_saturating_add(xs: &[u64]) -> u64 {
 #[unsafe(no_mangle)]
 pub extern "C" fn loop_u64_saturating_mul(xs: &[u64]) -> u64 {
     let mut product: u64 = 1;
-    for i in 0..xs.len() {
-        product = unsigned64_sums::saturating_mul(product, xs[i]);
+    for x in xs {
+        product = unsigned_sums::saturating_mul(product, *x);
     }
     product
 }
@@ -226,8 +218,8 @@ pub extern "C" fn loop_u64_saturating_mul(xs: &[u64]) -> u64 {
 #[unsafe(no_mangle)]
 pub extern "C" fn loop_u64_leading_zeros(xs: &[u64]) -> u32 {
     let mut sum: u32 = 0;
-    for i in 0..xs.len() {
-        sum = unsigned32_sums::wrapping_add(sum, zeros::leading_zeros_u64(xs[i]));
+    for x in xs {
+        sum = unsigned_sums::wrapping_add(sum, zeros::leading_zeros(*x));
     }
     sum
 }
@@ -235,8 +227,8 @@ pub extern "C" fn loop_u64_leading_zeros(xs: &[u64]) -> u32 {
 #[unsafe(no_mangle)]
 pub extern "C" fn loop_u64_trailing_zeros(xs: &[u64]) -> u32 {
     let mut sum: u32 = 0;
-    for i in 0..xs.len() {
-        sum = unsigned32_sums::wrapping_add(sum, zeros::trailing_zeros_u64(xs[i]));
+    for x in xs {
+        sum = unsigned_sums::wrapping_add(sum, zeros::trailing_zeros(*x));
     }
     sum
 }
@@ -246,13 +238,9 @@ pub extern "C" fn loop_u64_trailing_zeros(xs: &[u64]) -> u32 {
 #[unsafe(no_mangle)]
 pub extern "C" fn loop_u64_from_le_bytes(s: &[u8]) -> u64 {
     let mut sum: u64 = 0;
-    let mut at: usize = 0;
-    while s.len() - at >= 8 {
-        sum = unsigned64_sums::wrapping_add(
-            sum,
-            number_bytes64::from_le_bytes(&s[at..at + 8]).value,
-        );
-        at += 8;
+    for k in 0..s.len() / 8 {
+        let number = number_bytes::from_le_bytes(&s[8 * k..8 * k + 8]);
+        sum = unsigned_sums::wrapping_add(sum, number.unwrap_or(0));
     }
     sum
 }
@@ -260,13 +248,9 @@ pub extern "C" fn loop_u64_from_le_bytes(s: &[u8]) -> u64 {
 #[unsafe(no_mangle)]
 pub extern "C" fn loop_u64_from_be_bytes(s: &[u8]) -> u64 {
     let mut sum: u64 = 0;
-    let mut at: usize = 0;
-    while s.len() - at >= 8 {
-        sum = unsigned64_sums::wrapping_add(
-            sum,
-            number_bytes64::from_be_bytes(&s[at..at + 8]).value,
-        );
-        at += 8;
+    for k in 0..s.len() / 8 {
+        let number = number_bytes::from_be_bytes(&s[8 * k..8 * k + 8]);
+        sum = unsigned_sums::wrapping_add(sum, number.unwrap_or(0));
     }
     sum
 }
@@ -275,26 +259,20 @@ pub extern "C" fn loop_u64_from_be_bytes(s: &[u8]) -> u64 {
 
 #[unsafe(no_mangle)]
 pub extern "C" fn loop_u64_to_le_bytes(step: u64, s: &mut [u8]) -> u64 {
-    let size = s.len();
     let mut x: u64 = 0;
-    let mut at: usize = 0;
-    while size - at >= 8 {
-        number_bytes64::write_le_bytes(s, at, x);
-        x = unsigned64_sums::wrapping_add(x, step);
-        at += 8;
+    for k in 0..s.len() / 8 {
+        number_bytes::write_le_bytes(s, 8 * k, x);
+        x = unsigned_sums::wrapping_add(x, step);
     }
     x
 }
 
 #[unsafe(no_mangle)]
 pub extern "C" fn loop_u64_to_be_bytes(step: u64, s: &mut [u8]) -> u64 {
-    let size = s.len();
     let mut x: u64 = 0;
-    let mut at: usize = 0;
-    while size - at >= 8 {
-        number_bytes64::write_be_bytes(s, at, x);
-        x = unsigned64_sums::wrapping_add(x, step);
-        at += 8;
+    for k in 0..s.len() / 8 {
+        number_bytes::write_be_bytes(s, 8 * k, x);
+        x = unsigned_sums::wrapping_add(x, step);
     }
     x
 }

@@ -5,25 +5,26 @@
 
 ghost use Rattle.std.specs.Prelude.{◌<◌, ◌≤◌};
 
+use numbered::{Kind, Name, Operation, Part, Shape};
 use std::io;
 use std::io::Write;
 
 // ---- the arguments, as bits
 
 // 2^(w/2)
-fn root(kind: u8) -> u64
+fn root(kind: Kind) -> u64
     ensures { (0 < result) × (result ≤ 4294967296) }
 {
-    match numbered::width(kind) {
+    match kind.width() {
         16 => 0x100,
         32 => 0x1_0000,
         _ => 0x1_0000_0000,
     }
 }
 
-fn unsigned_edge(kind: u8, place: u64) -> u64 {
+fn unsigned_edge(kind: Kind, place: u64) -> u64 {
     let root = root(kind);
-    let half = numbered::smallest(kind);
+    let half = kind.smallest();
     match place {
         0..=3 => place,
         4 => 7,
@@ -32,32 +33,32 @@ fn unsigned_edge(kind: u8, place: u64) -> u64 {
         7 => half - 1,
         8 => half,
         9 => half + 1,
-        10 => numbered::minus(kind, 2),
-        _ => numbered::minus(kind, 1),
+        10 => kind.minus(2),
+        _ => kind.minus(1),
     }
 }
 
-fn signed_edge(kind: u8, place: u64) -> u64 {
+fn signed_edge(kind: Kind, place: u64) -> u64 {
     match place {
         0 => 0,
         1 => 1,
-        2 => numbered::minus(kind, 1),
+        2 => kind.minus(1),
         3 => 2,
-        4 => numbered::minus(kind, 2),
+        4 => kind.minus(2),
         5 => 7,
-        6 => numbered::minus(kind, 7),
+        6 => kind.minus(7),
         _ => large_signed_edge(kind, place),
     }
 }
 
-fn large_signed_edge(kind: u8, place: u64) -> u64 {
+fn large_signed_edge(kind: Kind, place: u64) -> u64 {
     let root = root(kind);
-    let half = numbered::smallest(kind);
+    let half = kind.smallest();
     match place {
         7 => root - 1,
         8 => root,
-        9 => numbered::minus(kind, root),
-        10 => numbered::minus(kind, root + 1),
+        9 => kind.minus(root),
+        10 => kind.minus(root + 1),
         11 => half - 2,
         12 => half - 1,
         13 => half + 1,
@@ -65,20 +66,20 @@ fn large_signed_edge(kind: u8, place: u64) -> u64 {
     }
 }
 
-fn edge(kind: u8, place: u64) -> u64 {
-    if numbered::is_signed(kind) {
+fn edge(kind: Kind, place: u64) -> u64 {
+    if kind.is_signed() {
         signed_edge(kind, place)
     } else {
         unsigned_edge(kind, place)
     }
 }
 
-fn edges(kind: u8) -> u64 {
-    if numbered::is_signed(kind) { 15 } else { 12 }
+fn edges(kind: Kind) -> u64 {
+    if kind.is_signed() { 15 } else { 12 }
 }
 
-fn distance(kind: u8, place: u64) -> u64 {
-    let width = numbered::width(kind);
+fn distance(kind: Kind, place: u64) -> u64 {
+    let width = kind.width();
     match place {
         0 => 0,
         1 => 1,
@@ -97,45 +98,49 @@ const DISTANCES: u64 = 12;
 
 // ---- the answers
 
-fn cell<W: Write>(out: &mut W, kind: u8, operation: u8, a: u64, b: u64, c: u64) -> io::Result<()> {
-    show::text(out, b" ")?;
-    show::answer(
-        out,
-        kind,
-        operation,
-        numbered_integers::run(kind, operation, numbered::three(a, b, c)),
-    )
+fn cell<W: Write>(
+    out: &mut W,
+    kind: Kind,
+    operation: Operation,
+    a: u64,
+    b: u64,
+    c: u64,
+) -> io::Result<()> {
+    let answer = numbered_integers::run(kind, operation, [a, b, c, 0]);
+    show::text(out, " ")?;
+    show::answer(out, Name::of(kind, operation), answer)
 }
 
 // How many values of an argument are tried.
-fn values(kind: u8, operation: u8, place: usize) -> u64 {
-    match numbered::taken(operation, place) {
-        b'.' => 1,
-        b't' => 2,
-        b'x' | b'o' => edges(numbered::takes(kind, operation, place)),
-        _ => DISTANCES,
+fn values(kind: Kind, operation: Operation, place: usize) -> u64 {
+    match operation.takes().get(place) {
+        None => 1,
+        Some(Shape::Own) => edges(kind),
+        Some(Shape::Other) => edges(kind.other_sign()),
+        Some(Shape::Always(Part::Truth)) => 2,
+        Some(Shape::Always(_)) => DISTANCES,
     }
 }
 
 // Such a value by its number: what is no number of the kind or of the other sign is a distance.
-fn value(kind: u8, operation: u8, place: usize, number: u64) -> u64 {
-    match numbered::taken(operation, place) {
-        b'.' => 0,
-        b't' => number,
-        b'x' | b'o' => edge(numbered::takes(kind, operation, place), number),
-        _ => distance(kind, number),
+fn value(kind: Kind, operation: Operation, place: usize, number: u64) -> u64 {
+    match operation.takes().get(place) {
+        None => 0,
+        Some(Shape::Own) => edge(kind, number),
+        Some(Shape::Other) => edge(kind.other_sign(), number),
+        Some(Shape::Always(Part::Truth)) => number,
+        Some(Shape::Always(_)) => distance(kind, number),
     }
 }
 
 fn cells<W: Write>(
     out: &mut W,
-    kind: u8,
-    operation: u8,
+    kind: Kind,
+    operation: Operation,
     a: u64,
     b: u64,
-    count: u64,
 ) -> io::Result<()> {
-    for number in 0..count {
+    for number in 0..values(kind, operation, 2) {
         cell(
             out,
             kind,
@@ -148,59 +153,44 @@ fn cells<W: Write>(
     Ok(())
 }
 
-fn seconds<W: Write>(out: &mut W, kind: u8, operation: u8, a: u64, count: u64) -> io::Result<()> {
-    let thirds = values(kind, operation, 2);
-    for number in 0..count {
-        cells(
-            out,
-            kind,
-            operation,
-            a,
-            value(kind, operation, 1, number),
-            thirds,
-        )?;
+fn seconds<W: Write>(out: &mut W, kind: Kind, operation: Operation, a: u64) -> io::Result<()> {
+    for number in 0..values(kind, operation, 1) {
+        cells(out, kind, operation, a, value(kind, operation, 1, number))?;
     }
     Ok(())
 }
 
-fn line<W: Write>(out: &mut W, kind: u8, operation: u8, a: u64) -> io::Result<()> {
-    show::title(out, kind, operation)?;
-    show::text(out, b" ")?;
+fn line<W: Write>(out: &mut W, kind: Kind, operation: Operation, a: u64) -> io::Result<()> {
+    let name = Name::of(kind, operation);
+    write!(out, "{name} ")?;
     show::number(out, kind, a)?;
-    show::text(out, b":")?;
-    seconds(out, kind, operation, a, values(kind, operation, 1))?;
-    show::text(out, b"\n")
+    show::text(out, ":")?;
+    seconds(out, kind, operation, a)?;
+    show::text(out, "\n")
 }
 
-fn lines<W: Write>(out: &mut W, kind: u8, operation: u8, count: u64) -> io::Result<()> {
-    for place in 0..count {
+fn lines<W: Write>(out: &mut W, kind: Kind, operation: Operation) -> io::Result<()> {
+    for place in 0..edges(kind) {
         line(out, kind, operation, edge(kind, place))?;
     }
     Ok(())
 }
 
-fn all_lines<W: Write>(out: &mut W, kind: u8, operation: u8) -> io::Result<()> {
-    if numbered::has(kind, operation) {
-        lines(out, kind, operation, edges(kind))?;
-    }
-    Ok(())
-}
-
-fn operations<W: Write>(out: &mut W, kind: u8) -> io::Result<()> {
-    for operation in 0..numbered::OPERATIONS {
-        all_lines(out, kind, operation)?;
+fn operations<W: Write>(out: &mut W, kind: Kind) -> io::Result<()> {
+    for operation in Operation::ON_NUMBERS {
+        if Name::of(kind, operation).is_there() {
+            lines(out, kind, operation)?;
+        }
     }
     Ok(())
 }
 
 fn main(rt: HostRuntime) -> io::Result<()> {
     let mut out = rt.stdout();
-    operations(&mut out, numbered::U16)?;
-    operations(&mut out, numbered::U32)?;
-    operations(&mut out, numbered::U64)?;
-    operations(&mut out, numbered::USIZE)?;
-    operations(&mut out, numbered::I16)?;
-    operations(&mut out, numbered::I32)?;
-    operations(&mut out, numbered::I64)?;
-    operations(&mut out, numbered::ISIZE)
+    for kind in Kind::ALL {
+        if 8 < kind.width() {
+            operations(&mut out, kind)?;
+        }
+    }
+    Ok(())
 }

@@ -18,38 +18,37 @@ fn one_if(test: bool) -> u32
 
 // ---- zeros and ones
 
-// Whether the count goes on past the place of a power of two: of leading zeros (0), leading ones (1), trailing zeros (2) or trailing ones.
-fn goes_on(kind: u32, size: u32, x: u32, power: u32) -> bool
+#[derive(Clone, Copy, PartialEq, Eq, Debug)]
+enum Count {
+    LeadingZeros,
+    LeadingOnes,
+    TrailingZeros,
+    TrailingOnes,
+}
+
+// Whether the count goes on past the place of a power of two.
+fn goes_on(count: Count, size: u32, x: u32, power: u32) -> bool
     requires { 1 < power }
 {
-    if kind == 0 {
-        return x < power / 2;
+    match count {
+        Count::LeadingZeros => x < power / 2,
+        Count::LeadingOnes => size as u64 <= x as u64 + (power / 2) as u64,
+        Count::TrailingZeros => x % power == 0,
+        Count::TrailingOnes => x % power == power - 1,
     }
-    if kind == 1 {
-        return (size as u64) <= (x as u64) + ((power / 2) as u64);
-    }
-    if kind == 2 {
-        return x % power == 0;
-    }
-    x % power == power - 1
 }
 
 fn counted(n: u32, more: bool) -> u32 {
-    if more {
-        if n < 32 {
-            return n + 1;
-        }
-    }
-    n
+    if more && n < 32 { n + 1 } else { n }
 }
 
 // How many powers of two up to size, from 2 on, the count goes past: size is 2 to the number of bits.
-fn rule(kind: u32, size: u32, x: u32) -> u32 {
+fn rule(count: Count, size: u32, x: u32) -> u32 {
     let mut power = size;
     let mut n: u32 = 0;
     while 1 < power {
-        n = counted(n, goes_on(kind, size, x, power));
-        power = power / 2;
+        n = counted(n, goes_on(count, size, x, power));
+        power /= 2;
     }
     n
 }
@@ -58,10 +57,10 @@ fn wrong_8(x: u8) -> u32
     ensures { result ≤ 4 }
 {
     let n = x as u32;
-    let a = one_if(zeros::leading_zeros_u8(x) != rule(0, 256, n));
-    let b = one_if(zeros::leading_ones_u8(x) != rule(1, 256, n));
-    let c = one_if(zeros::trailing_zeros_u8(x) != rule(2, 256, n));
-    let d = one_if(zeros::trailing_ones_u8(x) != rule(3, 256, n));
+    let a = one_if(zeros::leading_zeros(x) != rule(Count::LeadingZeros, 256, n));
+    let b = one_if(zeros::leading_ones(x) != rule(Count::LeadingOnes, 256, n));
+    let c = one_if(zeros::trailing_zeros(x) != rule(Count::TrailingZeros, 256, n));
+    let d = one_if(zeros::trailing_ones(x) != rule(Count::TrailingOnes, 256, n));
     a + b + c + d
 }
 
@@ -69,31 +68,27 @@ fn wrong_16(x: u16) -> u32
     ensures { result ≤ 4 }
 {
     let n = x as u32;
-    let a = one_if(zeros::leading_zeros_u16(x) != rule(0, 65536, n));
-    let b = one_if(zeros::leading_ones_u16(x) != rule(1, 65536, n));
-    let c = one_if(zeros::trailing_zeros_u16(x) != rule(2, 65536, n));
-    let d = one_if(zeros::trailing_ones_u16(x) != rule(3, 65536, n));
+    let a = one_if(zeros::leading_zeros(x) != rule(Count::LeadingZeros, 65536, n));
+    let b = one_if(zeros::leading_ones(x) != rule(Count::LeadingOnes, 65536, n));
+    let c = one_if(zeros::trailing_zeros(x) != rule(Count::TrailingZeros, 65536, n));
+    let d = one_if(zeros::trailing_ones(x) != rule(Count::TrailingOnes, 65536, n));
     a + b + c + d
 }
 
 fn every_8(rt: &impl Print) -> io::Result<()> {
     let mut wrong: u32 = 0;
-    let mut x: u32 = 0;
-    while x < 256 {
+    for x in 0..256u32 {
         wrong += wrong_8(x as u8);
-        x += 1;
     }
-    line(rt, "zeros and ones, 8 bits", 4 * x, wrong)
+    line(rt, "zeros and ones, 8 bits", 4 * 256, wrong)
 }
 
 fn every_16(rt: &impl Print) -> io::Result<()> {
     let mut wrong: u32 = 0;
-    let mut x: u32 = 0;
-    while x < 65536 {
+    for x in 0..65536u32 {
         wrong += wrong_16(x as u16);
-        x += 1;
     }
-    line(rt, "zeros and ones, 16 bits", 4 * x, wrong)
+    line(rt, "zeros and ones, 16 bits", 4 * 65536, wrong)
 }
 
 // ---- bytes, there and back in both orders
@@ -101,103 +96,90 @@ fn every_16(rt: &impl Print) -> io::Result<()> {
 fn trip_16(x: u16) -> u32
     ensures { result ≤ 2 }
 {
-    let low = number_bytes16::to_le_bytes(x);
-    let high = number_bytes16::to_be_bytes(x);
-    let from_low = number_bytes16::from_le_bytes(&low);
-    let from_high = number_bytes16::from_be_bytes(&high);
-    one_if(!from_low.ok | (from_low.value != x) | (low[0] != high[1]))
-        + one_if(!from_high.ok | (from_high.value != x) | (low[1] != high[0]))
+    let low: [u8; 2] = number_bytes::to_le_bytes(x);
+    let high: [u8; 2] = number_bytes::to_be_bytes(x);
+    let from_low = number_bytes::from_le_bytes(&low);
+    let from_high = number_bytes::from_be_bytes(&high);
+    one_if((from_low != Some(x)) | (low[0] != high[1]))
+        + one_if((from_high != Some(x)) | (low[1] != high[0]))
 }
 
 fn trip_32(x: u32) -> u32
     ensures { result ≤ 2 }
 {
-    let low = number_bytes32::to_le_bytes(x);
-    let high = number_bytes32::to_be_bytes(x);
-    let from_low = number_bytes32::from_le_bytes(&low);
-    let from_high = number_bytes32::from_be_bytes(&high);
-    one_if(!from_low.ok | (from_low.value != x) | (low[0] != high[3]))
-        + one_if(!from_high.ok | (from_high.value != x) | (low[1] != high[2]))
+    let low: [u8; 4] = number_bytes::to_le_bytes(x);
+    let high: [u8; 4] = number_bytes::to_be_bytes(x);
+    let from_low = number_bytes::from_le_bytes(&low);
+    let from_high = number_bytes::from_be_bytes(&high);
+    one_if((from_low != Some(x)) | (low[0] != high[3]))
+        + one_if((from_high != Some(x)) | (low[1] != high[2]))
 }
 
 fn trip_64(x: u64) -> u32
     ensures { result ≤ 2 }
 {
-    let low = number_bytes64::to_le_bytes(x);
-    let high = number_bytes64::to_be_bytes(x);
-    let from_low = number_bytes64::from_le_bytes(&low);
-    let from_high = number_bytes64::from_be_bytes(&high);
-    one_if(!from_low.ok | (from_low.value != x) | (low[0] != high[7]))
-        + one_if(!from_high.ok | (from_high.value != x) | (low[3] != high[4]))
+    let low: [u8; 8] = number_bytes::to_le_bytes(x);
+    let high: [u8; 8] = number_bytes::to_be_bytes(x);
+    let from_low = number_bytes::from_le_bytes(&low);
+    let from_high = number_bytes::from_be_bytes(&high);
+    one_if((from_low != Some(x)) | (low[0] != high[7]))
+        + one_if((from_high != Some(x)) | (low[3] != high[4]))
 }
 
 fn trips_16(rt: &impl Print) -> io::Result<()> {
     let mut wrong: u32 = 0;
-    let mut x: u32 = 0;
-    while x < 65536 {
+    for x in 0..65536u32 {
         wrong += trip_16(x as u16);
-        x += 1;
     }
-    line(rt, "there and back, 16 bits", 2 * x, wrong)
+    line(rt, "there and back, 16 bits", 2 * 65536, wrong)
 }
 
 // A single one, ones at the low end, and ones at the high end.
 fn trips_32(rt: &impl Print) -> io::Result<()> {
     let mut wrong: u32 = 0;
-    let mut k: u32 = 0;
-    while k < 32 {
-        let low: u32 = 4294967295 >> k;
+    for k in 0..32u32 {
+        let low = u32::MAX >> k;
         wrong += trip_32(1 << k) + trip_32(low) + trip_32(!low);
-        k += 1;
     }
-    line(rt, "there and back, edges of 32 bits", 6 * k, wrong)
+    line(rt, "there and back, edges of 32 bits", 6 * 32, wrong)
 }
 
 fn trips_64(rt: &impl Print) -> io::Result<()> {
     let mut wrong: u32 = 0;
-    let mut k: u32 = 0;
-    while k < 64 {
-        let low: u64 = 18446744073709551615 >> k;
+    for k in 0..64u32 {
+        let low = u64::MAX >> k;
         wrong += trip_64(1 << k) + trip_64(low) + trip_64(!low);
-        k += 1;
     }
-    line(rt, "there and back, edges of 64 bits", 6 * k, wrong)
+    line(rt, "there and back, edges of 64 bits", 6 * 64, wrong)
 }
 
 // What a byte of 24, each of them 170, should be once eight bytes are written from a place on, or refused.
 fn should_be(new: [u8; 8], at: usize, i: usize) -> u8 {
-    if at <= i {
-        if at <= 16 {
-            if i - at < 8 {
-                return new[i - at];
-            }
-        }
+    if at <= 16 && at <= i && i - at < 8 {
+        new[i - at]
+    } else {
+        170
     }
-    170
 }
 
 fn written_at(at: usize) -> u32
     ensures { result ≤ 25 }
 {
     let x: u64 = 0x0102030405060708;
-    let new = number_bytes64::to_le_bytes(x);
+    let new: [u8; 8] = number_bytes::to_le_bytes(x);
     let mut s = [170u8; 24];
-    let ok = number_bytes64::write_le_bytes(&mut s, at, x);
+    let ok = number_bytes::write_le_bytes(&mut s, at, x);
     let mut wrong = one_if(ok != (at <= 16));
-    let mut i = 0;
-    while i < 24 {
+    for i in 0..24 {
         wrong += one_if(s[i] != should_be(new, at, i));
-        i += 1;
     }
     wrong
 }
 
 fn writes(rt: &impl Print) -> io::Result<()> {
     let mut wrong: u32 = 0;
-    let mut at: usize = 0;
-    while at < 32 {
+    for at in 0..32 {
         wrong += written_at(at);
-        at += 1;
     }
     line(rt, "written at a place, bytes and answers", 800, wrong)
 }

@@ -7,16 +7,16 @@ mod whole;
 
 ghost use Rattle.std.specs.Prelude.{◌≤◌};
 
+use numbered::{Kind, Name, Operation, Part, Shape};
 use std::io;
 use std::io::Write;
 
 // 1 where the library and the rule agree, 0 where not.
-fn agree(kind: u8, operation: u8, a: u64, b: u64, c: u64) -> u64
+fn agree(kind: Kind, operation: Operation, a: u64, b: u64, c: u64) -> u64
     ensures { result ≤ 1 }
 {
-    let library = numbered_integers::run(kind, operation, numbered::three(a, b, c));
-    let rule = rule::answer(kind, operation, a, b);
-    if library.ok == rule.ok && library.first == rule.first && library.second == rule.second {
+    let library = numbered_integers::run(kind, operation, [a, b, c, 0]);
+    if library == rule::answer(kind, operation, a, b) {
         1
     } else {
         0
@@ -24,18 +24,18 @@ fn agree(kind: u8, operation: u8, a: u64, b: u64, c: u64) -> u64
 }
 
 // How many values an argument has.
-fn values(operation: u8, place: usize) -> u64
+fn values(operation: Operation, place: usize) -> u64
     ensures { result ≤ 256 }
 {
-    match numbered::taken(operation, place) {
-        b'.' => 1,
-        b't' => 2,
-        _ => 256,
+    match operation.takes().get(place) {
+        None => 1,
+        Some(Shape::Always(Part::Truth)) => 2,
+        Some(_) => 256,
     }
 }
 
 // At how many values of the third argument they agree.
-fn thirds(kind: u8, operation: u8, a: u64, b: u64) -> u64
+fn thirds(kind: Kind, operation: Operation, a: u64, b: u64) -> u64
     ensures { result ≤ 256 }
 {
     let mut count = 0;
@@ -46,7 +46,7 @@ fn thirds(kind: u8, operation: u8, a: u64, b: u64) -> u64
     count
 }
 
-fn row(kind: u8, operation: u8, a: u64) -> u64
+fn row(kind: Kind, operation: Operation, a: u64) -> u64
     ensures { result ≤ 65536 }
 {
     let mut count = 0;
@@ -57,7 +57,7 @@ fn row(kind: u8, operation: u8, a: u64) -> u64
     count
 }
 
-fn all(kind: u8, operation: u8) -> u64
+fn all(kind: Kind, operation: Operation) -> u64
     ensures { result ≤ 16777216 }
 {
     let mut count = 0;
@@ -67,25 +67,19 @@ fn all(kind: u8, operation: u8) -> u64
     count
 }
 
-fn line<W: Write>(out: &mut W, kind: u8, operation: u8) -> io::Result<()> {
-    if numbered::has(kind, operation) {
-        show::title(out, kind, operation)?;
-        show::text(out, b" ")?;
-        show::natural(out, all(kind, operation))?;
-        show::text(out, b"\n")?;
-    }
-    Ok(())
-}
-
-fn operations<W: Write>(out: &mut W, kind: u8) -> io::Result<()> {
-    for operation in 0..numbered::OPERATIONS {
-        line(out, kind, operation)?;
+fn operations<W: Write>(out: &mut W, kind: Kind) -> io::Result<()> {
+    for operation in Operation::ON_NUMBERS {
+        let name = Name::of(kind, operation);
+        if name.is_there() {
+            let count = all(kind, operation);
+            writeln!(out, "{name} {count}")?;
+        }
     }
     Ok(())
 }
 
 fn main(rt: HostRuntime) -> io::Result<()> {
     let mut out = rt.stdout();
-    operations(&mut out, numbered::U8)?;
-    operations(&mut out, numbered::I8)
+    operations(&mut out, Kind::U8)?;
+    operations(&mut out, Kind::I8)
 }

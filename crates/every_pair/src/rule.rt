@@ -5,94 +5,106 @@ use crate::whole::{
     Whole, difference, euclidean_quotient, euclidean_remainder, next_multiple, number, power,
     product, quotient, remainder, sum,
 };
-use numbered::Answer;
+use numbered::{Kind, Name, Operation, Part, Parts};
 
-pub fn answer(kind: u8, operation: u8, first: u64, second: u64) -> Answer {
-    let signed = numbered::is_signed(kind);
-    let second_signed = numbered::is_signed(numbered::takes(kind, operation, 1));
+pub fn answer(kind: Kind, operation: Operation, first: u64, second: u64) -> Option<Parts> {
+    let signed = kind.is_signed();
+    let second_signed = is_signed(Name::of(kind, operation).takes(1));
     let a = number(signed, first);
     let b = number(second_signed, second);
     match operation {
-        numbered::CLONE => numbered::found(wrapped(a)),
-        numbered::IS_MULTIPLE_OF => multiple(a, b),
-        numbered::LEADING_ZEROS
-        | numbered::LEADING_ONES
-        | numbered::TRAILING_ZEROS
-        | numbered::TRAILING_ONES => numbered::found(count(operation, a.size)),
-        numbered::EQ | numbered::NE | numbered::LT | numbered::LE | numbered::GT | numbered::GE => {
+        Operation::Clone => numbered::found(wrapped(a)),
+        Operation::IsMultipleOf => multiple(a, b),
+        Operation::LeadingZeros
+        | Operation::LeadingOnes
+        | Operation::TrailingZeros
+        | Operation::TrailingOnes => numbered::found(count(operation, a.size)),
+        Operation::Eq
+        | Operation::Ne
+        | Operation::Lt
+        | Operation::Le
+        | Operation::Gt
+        | Operation::Ge => {
             numbered::found(numbered::bit(test(operation, order(difference(a, b)))))
         }
-        numbered::CMP | numbered::COMPARE | numbered::PARTIAL_CMP => {
+        Operation::Cmp | Operation::Compare | Operation::PartialCmp => {
             numbered::found(order(difference(a, b)))
         }
         _ => arithmetic(signed, operation, a, b),
     }
 }
 
-fn arithmetic(signed: bool, operation: u8, a: Whole, b: Whole) -> Answer {
+fn is_signed(part: Option<Part>) -> bool {
+    match part {
+        Some(Part::Number(kind)) => kind.is_signed(),
+        _ => false,
+    }
+}
+
+fn arithmetic(signed: bool, operation: Operation, a: Whole, b: Whole) -> Option<Parts> {
     match operation {
-        numbered::WRAPPING_ADD
-        | numbered::WRAPPING_ADD_SIGNED
-        | numbered::WRAPPING_ADD_UNSIGNED
-        | numbered::WRAPPING_SUB
-        | numbered::WRAPPING_MUL
-        | numbered::WRAPPING_SHL
-        | numbered::WRAPPING_SHR => numbered::found(wrapped(exact(operation, a, b))),
-        numbered::CHECKED_ADD
-        | numbered::CHECKED_ADD_SIGNED
-        | numbered::CHECKED_ADD_UNSIGNED
-        | numbered::CHECKED_SUB
-        | numbered::CHECKED_SUB_UNSIGNED
-        | numbered::CHECKED_MUL => refused_or(signed, exact(operation, a, b)),
-        numbered::SATURATING_ADD | numbered::SATURATING_SUB | numbered::SATURATING_MUL => {
+        Operation::WrappingAdd
+        | Operation::WrappingAddSigned
+        | Operation::WrappingAddUnsigned
+        | Operation::WrappingSub
+        | Operation::WrappingMul
+        | Operation::WrappingShl
+        | Operation::WrappingShr => numbered::found(wrapped(exact(operation, a, b))),
+        Operation::CheckedAdd
+        | Operation::CheckedAddSigned
+        | Operation::CheckedAddUnsigned
+        | Operation::CheckedSub
+        | Operation::CheckedSubUnsigned
+        | Operation::CheckedMul => refused_or(signed, exact(operation, a, b)),
+        Operation::SaturatingAdd | Operation::SaturatingSub | Operation::SaturatingMul => {
             numbered::found(clamped(exact(operation, a, b)))
         }
         _ => division(signed, operation, a, b),
     }
 }
 
-fn exact(operation: u8, a: Whole, b: Whole) -> Whole {
+fn exact(operation: Operation, a: Whole, b: Whole) -> Whole {
     match operation {
-        numbered::WRAPPING_SUB
-        | numbered::CHECKED_SUB
-        | numbered::CHECKED_SUB_UNSIGNED
-        | numbered::SATURATING_SUB => difference(a, b),
-        numbered::WRAPPING_MUL | numbered::CHECKED_MUL | numbered::SATURATING_MUL => product(a, b),
-        numbered::WRAPPING_SHL => product(a, power(b.size)),
-        numbered::WRAPPING_SHR => euclidean_quotient(a, power(b.size)),
+        Operation::WrappingSub
+        | Operation::CheckedSub
+        | Operation::CheckedSubUnsigned
+        | Operation::SaturatingSub => difference(a, b),
+        Operation::WrappingMul | Operation::CheckedMul | Operation::SaturatingMul => product(a, b),
+        Operation::WrappingShl => product(a, power(b.size)),
+        Operation::WrappingShr => euclidean_quotient(a, power(b.size)),
         _ => sum(a, b),
     }
 }
 
-fn division(signed: bool, operation: u8, a: Whole, b: Whole) -> Answer {
+fn division(signed: bool, operation: Operation, a: Whole, b: Whole) -> Option<Parts> {
     if b.size == 0 {
-        return numbered::refused();
+        return None;
     }
     match operation {
-        numbered::CHECKED_DIV => refused_or(signed, quotient(a, b)),
-        numbered::CHECKED_REM => remaining(signed, quotient(a, b), remainder(a, b)),
-        numbered::CHECKED_DIV_EUCLID => refused_or(signed, euclidean_quotient(a, b)),
-        numbered::CHECKED_REM_EUCLID => euclidean_remaining(signed, a, b),
-        numbered::CHECKED_NEXT_MULTIPLE_OF => refused_or(signed, next_multiple(a, b)),
-        _ => numbered::refused(),
+        Operation::CheckedDiv => refused_or(signed, quotient(a, b)),
+        Operation::CheckedRem => remaining(signed, quotient(a, b), remainder(a, b)),
+        Operation::CheckedDivEuclid => refused_or(signed, euclidean_quotient(a, b)),
+        Operation::CheckedRemEuclid => euclidean_remaining(signed, a, b),
+        Operation::CheckedNextMultipleOf => refused_or(signed, next_multiple(a, b)),
+        _ => None,
     }
 }
 
 // A remainder is refused where its quotient does not fit.
-fn remaining(signed: bool, quotient: Whole, remainder: Whole) -> Answer {
+fn remaining(signed: bool, quotient: Whole, remainder: Whole) -> Option<Parts> {
     if fits(signed, quotient) {
         refused_or(signed, remainder)
     } else {
-        numbered::refused()
+        None
     }
 }
 
-fn euclidean_remaining(signed: bool, a: Whole, b: Whole) -> Answer {
+fn euclidean_remaining(signed: bool, a: Whole, b: Whole) -> Option<Parts> {
     remaining(signed, euclidean_quotient(a, b), euclidean_remainder(a, b))
 }
 
 // Only 0 is a multiple of 0.
-fn multiple(a: Whole, b: Whole) -> Answer {
+fn multiple(a: Whole, b: Whole) -> Option<Parts> {
     if b.size == 0 {
         numbered::found(numbered::bit(a.size == 0))
     } else {
@@ -112,25 +124,25 @@ fn order(difference: Whole) -> u64 {
     }
 }
 
-fn test(operation: u8, order: u64) -> bool {
+fn test(operation: Operation, order: u64) -> bool {
     match operation {
-        numbered::EQ => order == numbered::EQUAL,
-        numbered::NE => order != numbered::EQUAL,
-        numbered::LT => order == numbered::LESS,
-        numbered::LE => order != numbered::GREATER,
-        numbered::GT => order == numbered::GREATER,
+        Operation::Eq => order == numbered::EQUAL,
+        Operation::Ne => order != numbered::EQUAL,
+        Operation::Lt => order == numbered::LESS,
+        Operation::Le => order != numbered::GREATER,
+        Operation::Gt => order == numbered::GREATER,
         _ => order != numbered::LESS,
     }
 }
 
 // ---- zeros and ones of a byte
 
-fn count(operation: u8, byte: u64) -> u64 {
+fn count(operation: Operation, byte: u64) -> u64 {
     let n = byte % 256;
     match operation {
-        numbered::LEADING_ZEROS => zeros_in_front(n),
-        numbered::LEADING_ONES => zeros_in_front(255 - n),
-        numbered::TRAILING_ZEROS => zeros_at_the_end(n),
+        Operation::LeadingZeros => zeros_in_front(n),
+        Operation::LeadingOnes => zeros_in_front(255 - n),
+        Operation::TrailingZeros => zeros_at_the_end(n),
         _ => zeros_at_the_end(255 - n),
     }
 }
@@ -174,16 +186,11 @@ fn of_half(n: u64) -> u64
 // ---- fitting into a byte
 
 fn fits(signed: bool, a: Whole) -> bool {
-    if signed {
-        if a.negative {
-            a.size <= 128
-        } else {
-            a.size <= 127
-        }
-    } else if a.negative {
-        a.size == 0
-    } else {
-        a.size <= 255
+    match (signed, a.negative) {
+        (true, true) => a.size <= 128,
+        (true, false) => a.size <= 127,
+        (false, true) => a.size == 0,
+        (false, false) => a.size <= 255,
     }
 }
 
@@ -196,12 +203,8 @@ fn wrapped(a: Whole) -> u64 {
     }
 }
 
-fn refused_or(signed: bool, a: Whole) -> Answer {
-    if fits(signed, a) {
-        numbered::found(wrapped(a))
-    } else {
-        numbered::refused()
-    }
+fn refused_or(signed: bool, a: Whole) -> Option<Parts> {
+    fits(signed, a).then_some([wrapped(a), 0, 0, 0])
 }
 
 // The nearest unsigned number.

@@ -1,69 +1,30 @@
 // Each operation held against the rule: true where it answers as it must.
 use crate::rule::{Change, agree, at, changed_so, fill, is_part, least, minus, occurs, plus};
 
-fn byte_is(r: slices::Byte, ok: bool, v: u8) -> bool {
-    if ok {
-        r.ok & (r.value == v)
-    } else {
-        !r.ok & (r.value == 0)
-    }
-}
-
-fn verdict_is(r: slices::Verdict, ok: bool, v: bool) -> bool {
-    if ok {
-        r.ok & (r.value == v)
-    } else {
-        !r.ok & !r.value
-    }
-}
-
-fn range_is(r: slices_parts::Range, ok: bool, from: usize, to: usize) -> bool {
-    if ok {
-        r.ok & (r.from == from) & (r.to == to)
-    } else {
-        !r.ok & (r.from == 0) & (r.to == 0)
-    }
-}
-
 fn lengths(s: &[u8], f: usize, t: usize) -> bool {
     let ok = is_part(s, f, t);
-    let n = slices::len(s, f, t);
-    let e = slices::is_empty(s, f, t);
-    let counted = if ok {
-        n.ok & (n.value == minus(t, f))
-    } else {
-        !n.ok & (n.value == 0)
-    };
-    counted & verdict_is(e, ok, f == t)
+    slices::len(s, f, t) == ok.then_some(minus(t, f))
+        && slices::is_empty(s, f, t) == ok.then_some(f == t)
 }
 
 fn elements(s: &[u8], f: usize, t: usize, i: usize) -> bool {
     let ok = is_part(s, f, t);
     let some = ok & (f < t);
-    byte_is(
-        slices::get(s, f, t, i),
-        ok & (i < minus(t, f)),
-        at(s, plus(f, i)),
-    ) & byte_is(slices::first(s, f, t), some, at(s, f))
-        & byte_is(slices::last(s, f, t), some, at(s, minus(t, 1)))
+    let inside = ok & (i < minus(t, f));
+    slices::get(s, f, t, i) == inside.then_some(at(s, plus(f, i)))
+        && slices::first(s, f, t) == some.then_some(at(s, f))
+        && slices::last(s, f, t) == some.then_some(at(s, minus(t, 1)))
 }
 
 fn split_right(s: &[u8], f: usize, t: usize, m: usize) -> bool {
-    let r = slices_parts::split_at(s, f, t, m);
-    if is_part(s, f, t) & (m <= minus(t, f)) {
-        r.ok & (r.from == f) & (r.middle == plus(f, m)) & (r.to == t)
-    } else {
-        !r.ok & (r.from == 0) & (r.middle == 0) & (r.to == 0)
-    }
+    let ok = is_part(s, f, t) & (m <= minus(t, f));
+    let middle = plus(f, m);
+    slices_parts::split_at(s, f, t, m) == ok.then_some((f..middle, middle..t))
 }
 
 fn split_first_right(s: &[u8], f: usize, t: usize) -> bool {
-    let r = slices::split_first(s, f, t);
-    if is_part(s, f, t) & (f < t) {
-        r.ok & (r.first == at(s, f)) & (r.from == plus(f, 1)) & (r.to == t)
-    } else {
-        !r.ok & (r.first == 0) & (r.from == 0) & (r.to == 0)
-    }
+    let ok = is_part(s, f, t) & (f < t);
+    slices::split_first(s, f, t) == ok.then_some((at(s, f), plus(f, 1)..t))
 }
 
 fn sub_slice_right(s: &[u8], f: usize, t: usize) -> bool {
@@ -78,27 +39,17 @@ fn sub_slice_right(s: &[u8], f: usize, t: usize) -> bool {
 
 fn parts(s: &[u8], f: usize, t: usize, a: usize, e: usize) -> bool {
     let ok = is_part(s, f, t);
-    range_is(
-        slices_parts::sub_range(s, f, t, a, e),
-        ok & (a <= e) & (e <= minus(t, f)),
-        plus(f, a),
-        plus(f, e),
-    ) & range_is(
-        slices_parts::next_piece(s, f, t, a),
-        ok & (f < t) & (0 < a),
-        f,
-        least(plus(f, a), t),
-    ) & split_right(s, f, t, a)
-        & split_first_right(s, f, t)
-        & sub_slice_right(s, f, t)
+    let inside = ok & (a <= e) & (e <= minus(t, f));
+    let piece = ok & (f < t) & (0 < a);
+    slices_parts::sub_range(s, f, t, a, e) == inside.then_some(plus(f, a)..plus(f, e))
+        && slices_parts::next_piece(s, f, t, a) == piece.then_some(f..least(plus(f, a), t))
+        && split_right(s, f, t, a)
+        && split_first_right(s, f, t)
+        && sub_slice_right(s, f, t)
 }
 
 pub fn contains(s: &[u8], f: usize, t: usize, v: u8) -> bool {
-    verdict_is(
-        slices_compare::contains(s, f, t, v),
-        is_part(s, f, t),
-        occurs(s, f, t, v),
-    )
+    slices_compare::contains(s, f, t, v) == is_part(s, f, t).then_some(occurs(s, f, t, v))
 }
 
 // Everything that reads one slice: x and y are places or counts, v a byte.
@@ -111,19 +62,12 @@ pub fn compares(s: &[u8], f: usize, t: usize, other: &[u8]) -> bool {
     let ok = is_part(s, f, t);
     let n = minus(t, f);
     let m = other.len();
-    verdict_is(
-        slices_compare::equal(s, f, t, other),
-        ok,
-        (n == m) & agree(s, f, other, 0, m),
-    ) & verdict_is(
-        slices_compare::starts_with(s, f, t, other),
-        ok,
-        (m <= n) & agree(s, f, other, 0, m),
-    ) & verdict_is(
-        slices_compare::ends_with(s, f, t, other),
-        ok,
-        (m <= n) & agree(s, minus(t, m), other, 0, m),
-    )
+    let same = (n == m) & agree(s, f, other, 0, m);
+    let begins = (m <= n) & agree(s, f, other, 0, m);
+    let ends = (m <= n) & agree(s, minus(t, m), other, 0, m);
+    slices_compare::equal(s, f, t, other) == ok.then_some(same)
+        && slices_compare::starts_with(s, f, t, other) == ok.then_some(begins)
+        && slices_compare::ends_with(s, f, t, other) == ok.then_some(ends)
 }
 
 // What an operation answered and left: where it is refused, nothing has changed.

@@ -8,6 +8,7 @@ mod rule;
 ghost use Rattle.std.specs.Prelude.{◌≤◌, ◌<◌};
 
 use std::io;
+use text_read::Read;
 
 fn line(rt: &impl Print, words: &str, n: u64) -> io::Result<()> {
     println!(rt; "{words}: {n}")
@@ -32,18 +33,17 @@ fn is_form(s: &[u8], c: u32) -> bool {
     text_valid::valid(s)
         & is_read(first, c, s.len())
         & is_read(last, c, s.len())
-        & (count.ok & (count.value == 1))
-        & is_length(len, s.len())
-        & is_length(put, s.len())
+        & (count == Some(1))
+        & (len == Some(s.len()))
+        & (put == Some(s.len()))
         & begins(&out, s)
 }
 
-fn is_read(read: text_read::Read, c: u32, n: usize) -> bool {
-    read.ok & (read.value == c) & (read.length == n)
-}
-
-fn is_length(length: text_scalar::Length, n: usize) -> bool {
-    length.ok & (length.value == n)
+fn is_read(read: Option<Read>, c: u32, n: usize) -> bool {
+    match read {
+        Some(read) => read.value == c && read.length == n,
+        None => false,
+    }
 }
 
 fn begins(out: &[u8; 8], s: &[u8]) -> bool {
@@ -74,7 +74,11 @@ fn refused(s: &[u8]) -> u64
     let border = text_valid::is_boundary(s, 0);
     let split = text_valid::split_at(s, 0);
     one_if(
-        !(text_valid::valid(s) | first.ok | count.ok | border.ok | split.ok)
+        !(text_valid::valid(s)
+            | first.is_some()
+            | count.is_some()
+            | border.is_some()
+            | split.is_some())
             & (text_valid::valid_up_to(s) == 0),
     )
 }
@@ -190,7 +194,7 @@ fn strings(bytes: u8, total: u64) -> u64 {
 fn round(c: u32) -> bool {
     let mut out = [0xffu8; 8];
     let put = text_write::write(&mut out, 2, c);
-    let n = put.value;
+    let n = put.unwrap_or(0);
     if 4 < n {
         return false;
     }
@@ -199,13 +203,10 @@ fn round(c: u32) -> bool {
     let last = text_read::read_last(&out, 2, end);
     let count = text_valid::count(&out[2..end]);
     let untouched = (out[1] == 0xff) & (out[end] == 0xff);
-    if put.ok {
-        return is_read(first, c, n)
-            & is_read(last, c, n)
-            & (count.ok & (count.value == 1))
-            & untouched;
+    if put.is_some() {
+        return is_read(first, c, n) & is_read(last, c, n) & (count == Some(1)) & untouched;
     }
-    !(text_scalar::is_scalar(c) | first.ok | last.ok) & (n == 0) & untouched
+    !(text_scalar::is_scalar(c) | first.is_some() | last.is_some()) & untouched
 }
 
 // A text of up to three scalars, the first and the last of one byte: a place is a boundary, and splits it, where it is before, between or behind them.
@@ -215,11 +216,13 @@ fn is_split_around(s: &[u8]) -> bool {
         let between = at < 2 || at + 1 == s.len() || at == s.len();
         let border = text_valid::is_boundary(s, at);
         let split = text_valid::split_at(s, at);
-        if !border.ok || border.value != between || split.ok != between {
+        if border != Some(between) || split.is_some() != between {
             return false;
         }
-        if split.ok && (split.middle != at || split.end != s.len()) {
-            return false;
+        if let Some((front, back)) = split {
+            if front.start != 0 || front.end != at || back.start != at || back.end != s.len() {
+                return false;
+            }
         }
         at += 1;
     }
@@ -229,11 +232,11 @@ fn is_split_around(s: &[u8]) -> bool {
 // What is no scalar leaves two letters with nothing between them.
 fn around_one(c: u32) -> bool {
     let mut out = [0x61u8; 6];
-    let put = text_write::write(&mut out, 1, c);
-    if 4 < put.value {
+    let n = text_write::write(&mut out, 1, c).unwrap_or(0);
+    if 4 < n {
         return false;
     }
-    is_split_around(&out[0..put.value + 2])
+    is_split_around(&out[..n + 2])
 }
 
 fn right(c: u32) -> bool {

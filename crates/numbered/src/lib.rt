@@ -1,454 +1,901 @@
-// Every operation that the faces export, under a number, with what it takes and answers: what programs go through (written by generate/ from the table of
-// operations). `numbered_integers` and `numbered_bytes` run them.
+// Every operation that the faces export, with what it takes and answers: what programs go through (written by generate/ from the table of operations).
+// `numbered_integers`, `numbered_digits` and `numbered_bytes` run them.
 #![tactic(auto)]
 
 ghost use Rattle.std.specs.Prelude.{◌≤◌};
 
-// ---- kinds of integer, and the families behind them
-
-pub const U8: u8 = 0;
-
-pub const U16: u8 = 1;
-
-pub const U32: u8 = 2;
-
-pub const U64: u8 = 3;
-
-pub const USIZE: u8 = 4;
-
-pub const I8: u8 = 5;
-
-pub const I16: u8 = 6;
-
-pub const I32: u8 = 7;
-
-pub const I64: u8 = 8;
-
-pub const ISIZE: u8 = 9;
-
-pub const BYTES: u8 = 10;
-
-pub const TEXT: u8 = 11;
-
-pub const KINDS: u8 = 10;
-
-pub const FIRST_SIGNED: u8 = 5;
-
-// ---- what else is taken or answered
-
-pub const TRUTH: u8 = 100;
-
-pub const ORDER: u8 = 101;
-
-pub const SLICE: u8 = 102;
-
-pub const NOTHING: u8 = 103;
-
-// ---- operations: those below OPERATIONS are of integers on numbers alone
-
-pub const WRAPPING_ADD: u8 = 0;
-
-pub const WRAPPING_ADD_SIGNED: u8 = 1;
-
-pub const WRAPPING_ADD_UNSIGNED: u8 = 2;
-
-pub const WRAPPING_SUB: u8 = 3;
-
-pub const WRAPPING_MUL: u8 = 4;
-
-pub const WRAPPING_SHL: u8 = 5;
-
-pub const WRAPPING_SHR: u8 = 6;
-
-pub const CHECKED_ADD: u8 = 7;
-
-pub const CHECKED_ADD_SIGNED: u8 = 8;
-
-pub const CHECKED_ADD_UNSIGNED: u8 = 9;
-
-pub const CHECKED_SUB: u8 = 10;
-
-pub const CHECKED_SUB_UNSIGNED: u8 = 11;
-
-pub const CHECKED_MUL: u8 = 12;
-
-pub const CHECKED_NEXT_MULTIPLE_OF: u8 = 13;
-
-pub const CHECKED_DIV: u8 = 14;
-
-pub const CHECKED_DIV_EUCLID: u8 = 15;
-
-pub const CHECKED_REM: u8 = 16;
-
-pub const CHECKED_REM_EUCLID: u8 = 17;
-
-pub const SATURATING_ADD: u8 = 18;
-
-pub const SATURATING_SUB: u8 = 19;
-
-pub const SATURATING_MUL: u8 = 20;
-
-pub const IS_MULTIPLE_OF: u8 = 21;
-
-pub const CLONE: u8 = 22;
-
-pub const EQ: u8 = 23;
-
-pub const NE: u8 = 24;
-
-pub const LT: u8 = 25;
-
-pub const LE: u8 = 26;
-
-pub const GT: u8 = 27;
-
-pub const GE: u8 = 28;
-
-pub const CMP: u8 = 29;
-
-pub const COMPARE: u8 = 30;
-
-pub const PARTIAL_CMP: u8 = 31;
-
-pub const LEADING_ZEROS: u8 = 32;
-
-pub const LEADING_ONES: u8 = 33;
-
-pub const TRAILING_ZEROS: u8 = 34;
-
-pub const TRAILING_ONES: u8 = 35;
-
-pub const FROM_LE_BYTES: u8 = 36;
-
-pub const TO_LE_BYTES: u8 = 37;
-
-pub const FROM_BE_BYTES: u8 = 38;
-
-pub const TO_BE_BYTES: u8 = 39;
-
-pub const BYTES_LEN: u8 = 40;
-
-pub const BYTES_IS_EMPTY: u8 = 41;
-
-pub const BYTES_GET: u8 = 42;
-
-pub const BYTES_FIRST: u8 = 43;
-
-pub const BYTES_LAST: u8 = 44;
-
-pub const BYTES_SUB_RANGE: u8 = 45;
-
-pub const BYTES_SPLIT_AT: u8 = 46;
-
-pub const BYTES_SPLIT_FIRST: u8 = 47;
-
-pub const BYTES_NEXT_PIECE: u8 = 48;
-
-pub const BYTES_STARTS_WITH: u8 = 49;
-
-pub const BYTES_ENDS_WITH: u8 = 50;
-
-pub const BYTES_CONTAINS: u8 = 51;
-
-pub const BYTES_EQUAL: u8 = 52;
-
-pub const BYTES_SET: u8 = 53;
-
-pub const BYTES_REVERSE: u8 = 54;
-
-pub const BYTES_COPY_FROM: u8 = 55;
-
-pub const BYTES_COPY_WITHIN: u8 = 56;
-
-pub const TEXT_SCALAR_LEN: u8 = 57;
-
-pub const TEXT_IS_WHITE_SPACE: u8 = 58;
-
-pub const TEXT_WRITE: u8 = 59;
-
-pub const TEXT_READ_FIRST: u8 = 60;
-
-pub const TEXT_READ_LAST: u8 = 61;
-
-pub const TEXT_VALID: u8 = 62;
-
-pub const TEXT_COUNT: u8 = 63;
-
-pub const TEXT_IS_BOUNDARY: u8 = 64;
-
-pub const TEXT_SPLIT_AT: u8 = 65;
-
-pub const TEXT_IS_ASCII: u8 = 66;
-
-pub const TEXT_VALID_UP_TO: u8 = 67;
-
-pub const READ_DECIMAL: u8 = 68;
-
-pub const WRITE_DECIMAL: u8 = 69;
-
-pub const OPERATIONS: u8 = 36;
-
-pub const ALL: u8 = 70;
-
-pub const TAKEN: usize = 5;
-
-pub const SAID: usize = 4;
-
-// ---- what they are called, who has them, and what they take and answer
-
-// The kinds and families.
-pub const GROUPS: [u8; 52] = *b"u8 u16 u32 u64 usize i8 i16 i32 i64 isize bytes text";
-
-// The operations in the order of their numbers.
-pub const NAMES: [u8; 781] =
-    *b"wrapping_add wrapping_add_signed wrapping_add_unsigned wrapping_sub wrapping_mul \
-    wrapping_shl wrapping_shr checked_add checked_add_signed checked_add_unsigned checked_sub \
-    checked_sub_unsigned checked_mul checked_next_multiple_of checked_div checked_div_euclid \
-    checked_rem checked_rem_euclid saturating_add saturating_sub saturating_mul is_multiple_of \
-    clone eq ne lt le gt ge cmp compare partial_cmp leading_zeros leading_ones trailing_zeros \
-    trailing_ones from_le_bytes to_le_bytes from_be_bytes to_be_bytes len is_empty get first \
-    last sub_range split_at split_first next_piece starts_with ends_with contains equal set \
-    reverse copy_from copy_within scalar_len is_white_space write read_first read_last valid \
-    count is_boundary split_at is_ascii valid_up_to read_decimal write_decimal";
-
-// Who has each: T the unsigned kinds, S the signed ones, B both, U those up to 64 bits, W those of several bytes; b bytes, t text.
-pub const OF: [u8; 70] = *b"BTSBBBBBTSBSBTBBBBTTTTBBBBBBBBBBUUUUWWWWbbbbbbbbbbbbbbbbbtttttttttttBB";
-
-// What each takes, a row of 5: x its kind, o that of the other sign, A and so on a kind by its number, t a truth, b bytes.
-pub const TAKES: [u8; 350] =
-    *b"xx...xo...xo...xx...xx...xC...xC...xx...xo...xo...xx...xo...xx...xx...xx...xx...xx...xx...\
-    xx...xx...xx...xx...x....xx...xx...xx...xx...xx...xx...xx...xx...xx...x....x....x....x....\
-    b....x....b....x....bEE..bEE..bEEE.bEE..bEE..bEEEEbEEE.bEE..bEEE.bEEb.bEEb.bEEA.bEEb.bEEEA\
-    bEE..bEEb.bEEE.C....C....bEC..bEE..bEE..b....b....bE...bE...b....b....bEE..bEx..";
-
-// What each answers, a row of 4 in the same letters, and c for a comparison.
-pub const SAYS: [u8; 280] =
-    *b"x...x...x...x...x...x...x...x...x...x...x...x...x...x...x...x...x...x...x...x...x...t...x...\
-    t...t...t...t...t...t...c...c...c...C...C...C...C...x...b...x...b...E...t...A...A...A...EE..\
-    EEE.AEE.EE..t...t...t...t...b...b...b...b...E...t...b...CE..CE..t...E...t...EEE.t...E...x...\
-    bE..";
-
-// How each is run: a letter for those that take the same, and on numbers alone give the same.
-pub const FORMS: [u8; 70] =
-    *b"abbaaccdeededdddddaaafgffffffhhijjjjklklmmnmmonmnppqprstuvvwmmkkxxkkmy";
-
-// ---- the ways to run one
-
-pub const NUMBER_OF_NUMBER_NUMBER: u8 = b'a';
-
-pub const NUMBER_OF_NUMBER_OTHER: u8 = b'b';
-
-pub const NUMBER_OF_NUMBER_U32: u8 = b'c';
-
-pub const CHECKED_OF_NUMBER_NUMBER: u8 = b'd';
-
-pub const CHECKED_OF_NUMBER_OTHER: u8 = b'e';
-
-pub const TEST_OF_NUMBER_NUMBER: u8 = b'f';
-
-pub const NUMBER_OF_NUMBER: u8 = b'g';
-
-pub const ORDER_OF_NUMBER_NUMBER: u8 = b'h';
-
-pub const PARTIAL_ORDERING_OF_NUMBER_NUMBER: u8 = b'i';
-
-pub const U32_OF_NUMBER: u8 = b'j';
-
-pub const READING_BYTES: u8 = b'k';
-
-pub const WRITING_NUMBER: u8 = b'l';
-
-pub const READING_BYTES_PLACE_PLACE: u8 = b'm';
-
-pub const READING_BYTES_PLACE_PLACE_PLACE: u8 = b'n';
-
-pub const READING_BYTES_PLACE_PLACE_PLACE_PLACE: u8 = b'o';
-
-pub const READING_BYTES_PLACE_PLACE_BYTES: u8 = b'p';
-
-pub const READING_BYTES_PLACE_PLACE_BYTE: u8 = b'q';
-
-pub const WRITING_BYTES_PLACE_PLACE_PLACE_BYTE: u8 = b'r';
-
-pub const WRITING_BYTES_PLACE_PLACE: u8 = b's';
-
-pub const WRITING_BYTES_PLACE_PLACE_BYTES: u8 = b't';
-
-pub const WRITING_BYTES_PLACE_PLACE_PLACE: u8 = b'u';
-
-pub const READING_U32: u8 = b'v';
-
-pub const WRITING_BYTES_PLACE_U32: u8 = b'w';
-
-pub const READING_BYTES_PLACE: u8 = b'x';
-
-pub const WRITING_BYTES_PLACE_NUMBER: u8 = b'y';
-
-// ---- reading the tables
-
-// How an operation is run.
-pub fn form(operation: u8) -> u8 {
-    let at = operation as usize;
-    let table = FORMS;
-    if at < table.len() { table[at] } else { b'.' }
+use std::fmt;
+
+// ---- kinds of integer
+
+#[derive(Clone, Copy, PartialEq, Eq, Debug)]
+pub enum Kind {
+    U8,
+    U16,
+    U32,
+    U64,
+    Usize,
+    I8,
+    I16,
+    I32,
+    I64,
+    Isize,
 }
 
-fn of(operation: u8) -> u8 {
-    let at = operation as usize;
-    let table = OF;
-    if at < table.len() { table[at] } else { b'.' }
-}
+impl Kind {
+    pub const ALL: [Kind; 10] = [
+        Kind::U8,
+        Kind::U16,
+        Kind::U32,
+        Kind::U64,
+        Kind::Usize,
+        Kind::I8,
+        Kind::I16,
+        Kind::I32,
+        Kind::I64,
+        Kind::Isize,
+    ];
 
-pub fn has(kind: u8, operation: u8) -> bool {
-    match of(operation) {
-        b'B' => kind <= ISIZE,
-        b'b' => kind == BYTES,
-        b't' => kind == TEXT,
-        b'T' => kind <= USIZE,
-        b'S' => (I8 <= kind) & (kind <= ISIZE),
-        b'U' => kind <= U64,
-        b'W' => (U16 <= kind) & (kind <= U64),
-        _ => false,
+    pub fn is_signed(self) -> bool {
+        match self {
+            Kind::I8 | Kind::I16 | Kind::I32 | Kind::I64 | Kind::Isize => true,
+            _ => false,
+        }
+    }
+
+    // The kind of the same width and the other sign.
+    pub fn other_sign(self) -> Kind {
+        match self {
+            Kind::U8 => Kind::I8,
+            Kind::U16 => Kind::I16,
+            Kind::U32 => Kind::I32,
+            Kind::U64 => Kind::I64,
+            Kind::Usize => Kind::Isize,
+            Kind::I8 => Kind::U8,
+            Kind::I16 => Kind::U16,
+            Kind::I32 => Kind::U32,
+            Kind::I64 => Kind::U64,
+            Kind::Isize => Kind::Usize,
+        }
+    }
+
+    pub fn width(self) -> u64
+        ensures { (8 ≤ result) × (result ≤ 64) }
+    {
+        match self {
+            Kind::U8 | Kind::I8 => 8,
+            Kind::U16 | Kind::I16 => 16,
+            Kind::U32 | Kind::I32 => 32,
+            Kind::U64 | Kind::Usize | Kind::I64 | Kind::Isize => 64,
+        }
+    }
+
+    fn given(self, operation: Operation) -> usize {
+        match operation {
+            Operation::ToLeBytes | Operation::ToBeBytes => self.width() as usize / 8,
+            _ => 0,
+        }
+    }
+
+    // The bits of a kind, all ones.
+    pub fn ones(self) -> u64
+        ensures { 255 ≤ result }
+    {
+        match self.width() {
+            8 => 0xff,
+            16 => 0xffff,
+            32 => 0xffff_ffff,
+            _ => u64::MAX,
+        }
+    }
+
+    // The bits of -n.
+    pub fn minus(self, n: u64) -> u64 {
+        let ones = self.ones();
+        if 0 < n && n <= ones { ones - n + 1 } else { 0 }
+    }
+
+    // The bits of a signed kind's smallest number.
+    pub fn smallest(self) -> u64
+        ensures { (128 ≤ result) × (result ≤ 9223372036854775808) }
+    {
+        self.ones() / 2 + 1
     }
 }
 
-fn kind_of(kind: u8, letter: u8) -> u8 {
-    match letter {
-        b'x' => kind,
-        b'o' => other_sign(kind),
-        b't' => TRUTH,
-        b'c' => ORDER,
-        b'b' => SLICE,
-        b'A'..=b'Z' => letter - b'A',
-        _ => NOTHING,
+// ---- what has operations
+
+// The operations of a kind, or another family of them.
+#[derive(Clone, Copy, PartialEq, Eq, Debug)]
+pub enum Group {
+    Integers(Kind),
+    Bytes,
+    Text,
+}
+
+impl fmt::Display for Kind {
+    fn fmt<W: fmt::Write>(&self, f: &mut fmt::Formatter<W>) -> fmt::Result {
+        Group::Integers(*self).fmt(f)
     }
 }
 
-// What stands at a place of the arguments, by its letter.
-pub fn taken(operation: u8, place: usize) -> u8 {
-    let at = operation as usize * TAKEN + place % TAKEN;
-    let table = TAKES;
-    if place < TAKEN && at < table.len() {
-        table[at]
-    } else {
-        b'.'
+impl Group {
+    pub const ALL: [Group; 12] = [
+        Group::Integers(Kind::U8),
+        Group::Integers(Kind::U16),
+        Group::Integers(Kind::U32),
+        Group::Integers(Kind::U64),
+        Group::Integers(Kind::Usize),
+        Group::Integers(Kind::I8),
+        Group::Integers(Kind::I16),
+        Group::Integers(Kind::I32),
+        Group::Integers(Kind::I64),
+        Group::Integers(Kind::Isize),
+        Group::Bytes,
+        Group::Text,
+    ];
+
+    pub fn name(self) -> &'static str {
+        match self {
+            Group::Integers(Kind::U8) => "u8",
+            Group::Integers(Kind::U16) => "u16",
+            Group::Integers(Kind::U32) => "u32",
+            Group::Integers(Kind::U64) => "u64",
+            Group::Integers(Kind::Usize) => "usize",
+            Group::Integers(Kind::I8) => "i8",
+            Group::Integers(Kind::I16) => "i16",
+            Group::Integers(Kind::I32) => "i32",
+            Group::Integers(Kind::I64) => "i64",
+            Group::Integers(Kind::Isize) => "isize",
+            Group::Bytes => "bytes",
+            Group::Text => "text",
+        }
+    }
+
+    fn part(self, shape: Shape) -> Option<Part> {
+        match shape {
+            Shape::Own => self.number(),
+            Shape::Other => self.other_number(),
+            Shape::Always(part) => Some(part),
+        }
+    }
+
+    fn number(self) -> Option<Part> {
+        match self {
+            Group::Integers(kind) => Some(Part::Number(kind)),
+            _ => None,
+        }
+    }
+
+    fn other_number(self) -> Option<Part> {
+        match self {
+            Group::Integers(kind) => Some(Part::Number(kind.other_sign())),
+            _ => None,
+        }
+    }
+
+    fn given(self, operation: Operation) -> usize {
+        match self {
+            Group::Integers(kind) => kind.given(operation),
+            _ => 0,
+        }
     }
 }
 
-// The kind of an argument by its place; NOTHING behind the last.
-pub fn takes(kind: u8, operation: u8, place: usize) -> u8 {
-    kind_of(kind, taken(operation, place))
-}
-
-// The kind of a part of the answer by its place; NOTHING behind the last.
-pub fn says(kind: u8, operation: u8, place: usize) -> u8 {
-    let at = operation as usize * SAID + place % SAID;
-    let table = SAYS;
-    if place < SAID && at < table.len() {
-        kind_of(kind, table[at])
-    } else {
-        NOTHING
+impl fmt::Display for Group {
+    fn fmt<W: fmt::Write>(&self, f: &mut fmt::Formatter<W>) -> fmt::Result {
+        f.write_str(self.name())
     }
 }
 
-// How many bytes are handed over, in a slice that the question does not have.
-pub fn given(kind: u8, operation: u8) -> usize {
-    match operation {
-        TO_LE_BYTES => (width(kind) / 8) as usize,
-        TO_BE_BYTES => (width(kind) / 8) as usize,
-        _ => 0,
+const INTEGERS: [Group; 10] = [
+    Group::Integers(Kind::U8),
+    Group::Integers(Kind::U16),
+    Group::Integers(Kind::U32),
+    Group::Integers(Kind::U64),
+    Group::Integers(Kind::Usize),
+    Group::Integers(Kind::I8),
+    Group::Integers(Kind::I16),
+    Group::Integers(Kind::I32),
+    Group::Integers(Kind::I64),
+    Group::Integers(Kind::Isize),
+];
+
+const UNSIGNED: [Group; 5] = [
+    Group::Integers(Kind::U8),
+    Group::Integers(Kind::U16),
+    Group::Integers(Kind::U32),
+    Group::Integers(Kind::U64),
+    Group::Integers(Kind::Usize),
+];
+
+const SIGNED: [Group; 5] = [
+    Group::Integers(Kind::I8),
+    Group::Integers(Kind::I16),
+    Group::Integers(Kind::I32),
+    Group::Integers(Kind::I64),
+    Group::Integers(Kind::Isize),
+];
+
+const COUNTED: [Group; 4] = [
+    Group::Integers(Kind::U8),
+    Group::Integers(Kind::U16),
+    Group::Integers(Kind::U32),
+    Group::Integers(Kind::U64),
+];
+
+const OF_BYTES: [Group; 3] = [
+    Group::Integers(Kind::U16),
+    Group::Integers(Kind::U32),
+    Group::Integers(Kind::U64),
+];
+// ---- what is taken or answered
+
+// An argument, or a part of an answer.
+#[derive(Clone, Copy, PartialEq, Eq, Debug)]
+pub enum Part {
+    Number(Kind),
+    Truth,
+    Order,
+    Bytes,
+}
+
+// The same, where an operation is of several kinds: a number of its own kind, one of the other sign, or what is the same at all.
+#[derive(Clone, Copy, PartialEq, Eq, Debug)]
+pub enum Shape {
+    Own,
+    Other,
+    Always(Part),
+}
+
+const TRUTH: Shape = Shape::Always(Part::Truth);
+
+const ORDER: Shape = Shape::Always(Part::Order);
+
+const BYTES: Shape = Shape::Always(Part::Bytes);
+
+const U8: Shape = Shape::Always(Part::Number(Kind::U8));
+
+const U32: Shape = Shape::Always(Part::Number(Kind::U32));
+
+const USIZE: Shape = Shape::Always(Part::Number(Kind::Usize));
+
+// ---- operations
+
+// Those of integers on numbers alone come first.
+#[derive(Clone, Copy, PartialEq, Eq, Debug)]
+pub enum Operation {
+    WrappingAdd,
+    WrappingAddSigned,
+    WrappingAddUnsigned,
+    WrappingSub,
+    WrappingMul,
+    WrappingShl,
+    WrappingShr,
+    CheckedAdd,
+    CheckedAddSigned,
+    CheckedAddUnsigned,
+    CheckedSub,
+    CheckedSubUnsigned,
+    CheckedMul,
+    CheckedNextMultipleOf,
+    CheckedDiv,
+    CheckedDivEuclid,
+    CheckedRem,
+    CheckedRemEuclid,
+    SaturatingAdd,
+    SaturatingSub,
+    SaturatingMul,
+    IsMultipleOf,
+    Clone,
+    Eq,
+    Ne,
+    Lt,
+    Le,
+    Gt,
+    Ge,
+    Cmp,
+    Compare,
+    PartialCmp,
+    LeadingZeros,
+    LeadingOnes,
+    TrailingZeros,
+    TrailingOnes,
+    FromLeBytes,
+    ToLeBytes,
+    FromBeBytes,
+    ToBeBytes,
+    BytesLen,
+    BytesIsEmpty,
+    BytesGet,
+    BytesFirst,
+    BytesLast,
+    BytesSubRange,
+    BytesSplitAt,
+    BytesSplitFirst,
+    BytesNextPiece,
+    BytesStartsWith,
+    BytesEndsWith,
+    BytesContains,
+    BytesEqual,
+    BytesSet,
+    BytesReverse,
+    BytesCopyFrom,
+    BytesCopyWithin,
+    TextScalarLen,
+    TextIsWhiteSpace,
+    TextWrite,
+    TextReadFirst,
+    TextReadLast,
+    TextValid,
+    TextCount,
+    TextIsBoundary,
+    TextSplitAt,
+    TextIsAscii,
+    TextValidUpTo,
+    ReadDecimal,
+    WriteDecimal,
+}
+
+impl Operation {
+    pub const ALL: [Operation; 70] = [
+        Operation::WrappingAdd,
+        Operation::WrappingAddSigned,
+        Operation::WrappingAddUnsigned,
+        Operation::WrappingSub,
+        Operation::WrappingMul,
+        Operation::WrappingShl,
+        Operation::WrappingShr,
+        Operation::CheckedAdd,
+        Operation::CheckedAddSigned,
+        Operation::CheckedAddUnsigned,
+        Operation::CheckedSub,
+        Operation::CheckedSubUnsigned,
+        Operation::CheckedMul,
+        Operation::CheckedNextMultipleOf,
+        Operation::CheckedDiv,
+        Operation::CheckedDivEuclid,
+        Operation::CheckedRem,
+        Operation::CheckedRemEuclid,
+        Operation::SaturatingAdd,
+        Operation::SaturatingSub,
+        Operation::SaturatingMul,
+        Operation::IsMultipleOf,
+        Operation::Clone,
+        Operation::Eq,
+        Operation::Ne,
+        Operation::Lt,
+        Operation::Le,
+        Operation::Gt,
+        Operation::Ge,
+        Operation::Cmp,
+        Operation::Compare,
+        Operation::PartialCmp,
+        Operation::LeadingZeros,
+        Operation::LeadingOnes,
+        Operation::TrailingZeros,
+        Operation::TrailingOnes,
+        Operation::FromLeBytes,
+        Operation::ToLeBytes,
+        Operation::FromBeBytes,
+        Operation::ToBeBytes,
+        Operation::BytesLen,
+        Operation::BytesIsEmpty,
+        Operation::BytesGet,
+        Operation::BytesFirst,
+        Operation::BytesLast,
+        Operation::BytesSubRange,
+        Operation::BytesSplitAt,
+        Operation::BytesSplitFirst,
+        Operation::BytesNextPiece,
+        Operation::BytesStartsWith,
+        Operation::BytesEndsWith,
+        Operation::BytesContains,
+        Operation::BytesEqual,
+        Operation::BytesSet,
+        Operation::BytesReverse,
+        Operation::BytesCopyFrom,
+        Operation::BytesCopyWithin,
+        Operation::TextScalarLen,
+        Operation::TextIsWhiteSpace,
+        Operation::TextWrite,
+        Operation::TextReadFirst,
+        Operation::TextReadLast,
+        Operation::TextValid,
+        Operation::TextCount,
+        Operation::TextIsBoundary,
+        Operation::TextSplitAt,
+        Operation::TextIsAscii,
+        Operation::TextValidUpTo,
+        Operation::ReadDecimal,
+        Operation::WriteDecimal,
+    ];
+
+    // Those of integers on numbers alone.
+    pub const ON_NUMBERS: [Operation; 36] = [
+        Operation::WrappingAdd,
+        Operation::WrappingAddSigned,
+        Operation::WrappingAddUnsigned,
+        Operation::WrappingSub,
+        Operation::WrappingMul,
+        Operation::WrappingShl,
+        Operation::WrappingShr,
+        Operation::CheckedAdd,
+        Operation::CheckedAddSigned,
+        Operation::CheckedAddUnsigned,
+        Operation::CheckedSub,
+        Operation::CheckedSubUnsigned,
+        Operation::CheckedMul,
+        Operation::CheckedNextMultipleOf,
+        Operation::CheckedDiv,
+        Operation::CheckedDivEuclid,
+        Operation::CheckedRem,
+        Operation::CheckedRemEuclid,
+        Operation::SaturatingAdd,
+        Operation::SaturatingSub,
+        Operation::SaturatingMul,
+        Operation::IsMultipleOf,
+        Operation::Clone,
+        Operation::Eq,
+        Operation::Ne,
+        Operation::Lt,
+        Operation::Le,
+        Operation::Gt,
+        Operation::Ge,
+        Operation::Cmp,
+        Operation::Compare,
+        Operation::PartialCmp,
+        Operation::LeadingZeros,
+        Operation::LeadingOnes,
+        Operation::TrailingZeros,
+        Operation::TrailingOnes,
+    ];
+
+    pub fn is_on_numbers(self) -> bool {
+        Operation::ON_NUMBERS.contains(&self)
+    }
+
+    // Several may share a name, of different groups.
+    pub fn name(self) -> &'static str {
+        match self {
+            Operation::WrappingAdd => "wrapping_add",
+            Operation::WrappingAddSigned => "wrapping_add_signed",
+            Operation::WrappingAddUnsigned => "wrapping_add_unsigned",
+            Operation::WrappingSub => "wrapping_sub",
+            Operation::WrappingMul => "wrapping_mul",
+            Operation::WrappingShl => "wrapping_shl",
+            Operation::WrappingShr => "wrapping_shr",
+            Operation::CheckedAdd => "checked_add",
+            Operation::CheckedAddSigned => "checked_add_signed",
+            Operation::CheckedAddUnsigned => "checked_add_unsigned",
+            Operation::CheckedSub => "checked_sub",
+            Operation::CheckedSubUnsigned => "checked_sub_unsigned",
+            Operation::CheckedMul => "checked_mul",
+            Operation::CheckedNextMultipleOf => "checked_next_multiple_of",
+            Operation::CheckedDiv => "checked_div",
+            Operation::CheckedDivEuclid => "checked_div_euclid",
+            Operation::CheckedRem => "checked_rem",
+            Operation::CheckedRemEuclid => "checked_rem_euclid",
+            Operation::SaturatingAdd => "saturating_add",
+            Operation::SaturatingSub => "saturating_sub",
+            Operation::SaturatingMul => "saturating_mul",
+            Operation::IsMultipleOf => "is_multiple_of",
+            Operation::Clone => "clone",
+            Operation::Eq => "eq",
+            Operation::Ne => "ne",
+            Operation::Lt => "lt",
+            Operation::Le => "le",
+            Operation::Gt => "gt",
+            Operation::Ge => "ge",
+            Operation::Cmp => "cmp",
+            Operation::Compare => "compare",
+            Operation::PartialCmp => "partial_cmp",
+            Operation::LeadingZeros => "leading_zeros",
+            Operation::LeadingOnes => "leading_ones",
+            Operation::TrailingZeros => "trailing_zeros",
+            Operation::TrailingOnes => "trailing_ones",
+            Operation::FromLeBytes => "from_le_bytes",
+            Operation::ToLeBytes => "to_le_bytes",
+            Operation::FromBeBytes => "from_be_bytes",
+            Operation::ToBeBytes => "to_be_bytes",
+            Operation::BytesLen => "len",
+            Operation::BytesIsEmpty => "is_empty",
+            Operation::BytesGet => "get",
+            Operation::BytesFirst => "first",
+            Operation::BytesLast => "last",
+            Operation::BytesSubRange => "sub_range",
+            Operation::BytesSplitAt | Operation::TextSplitAt => "split_at",
+            Operation::BytesSplitFirst => "split_first",
+            Operation::BytesNextPiece => "next_piece",
+            Operation::BytesStartsWith => "starts_with",
+            Operation::BytesEndsWith => "ends_with",
+            Operation::BytesContains => "contains",
+            Operation::BytesEqual => "equal",
+            Operation::BytesSet => "set",
+            Operation::BytesReverse => "reverse",
+            Operation::BytesCopyFrom => "copy_from",
+            Operation::BytesCopyWithin => "copy_within",
+            Operation::TextScalarLen => "scalar_len",
+            Operation::TextIsWhiteSpace => "is_white_space",
+            Operation::TextWrite => "write",
+            Operation::TextReadFirst => "read_first",
+            Operation::TextReadLast => "read_last",
+            Operation::TextValid => "valid",
+            Operation::TextCount => "count",
+            Operation::TextIsBoundary => "is_boundary",
+            Operation::TextIsAscii => "is_ascii",
+            Operation::TextValidUpTo => "valid_up_to",
+            Operation::ReadDecimal => "read_decimal",
+            Operation::WriteDecimal => "write_decimal",
+        }
+    }
+
+    pub fn takes(self) -> &'static [Shape] {
+        match self {
+            Operation::WrappingAdd
+            | Operation::WrappingSub
+            | Operation::WrappingMul
+            | Operation::CheckedAdd
+            | Operation::CheckedSub
+            | Operation::CheckedMul
+            | Operation::CheckedNextMultipleOf
+            | Operation::CheckedDiv
+            | Operation::CheckedDivEuclid
+            | Operation::CheckedRem
+            | Operation::CheckedRemEuclid
+            | Operation::SaturatingAdd
+            | Operation::SaturatingSub
+            | Operation::SaturatingMul
+            | Operation::IsMultipleOf
+            | Operation::Eq
+            | Operation::Ne
+            | Operation::Lt
+            | Operation::Le
+            | Operation::Gt
+            | Operation::Ge
+            | Operation::Cmp
+            | Operation::Compare
+            | Operation::PartialCmp => &[Shape::Own, Shape::Own],
+            Operation::WrappingAddSigned
+            | Operation::WrappingAddUnsigned
+            | Operation::CheckedAddSigned
+            | Operation::CheckedAddUnsigned
+            | Operation::CheckedSubUnsigned => &[Shape::Own, Shape::Other],
+            Operation::WrappingShl | Operation::WrappingShr => &[Shape::Own, U32],
+            Operation::Clone
+            | Operation::LeadingZeros
+            | Operation::LeadingOnes
+            | Operation::TrailingZeros
+            | Operation::TrailingOnes
+            | Operation::ToLeBytes
+            | Operation::ToBeBytes => &[Shape::Own],
+            Operation::FromLeBytes
+            | Operation::FromBeBytes
+            | Operation::TextValid
+            | Operation::TextCount
+            | Operation::TextIsAscii
+            | Operation::TextValidUpTo => &[BYTES],
+            Operation::BytesLen
+            | Operation::BytesIsEmpty
+            | Operation::BytesFirst
+            | Operation::BytesLast
+            | Operation::BytesSplitFirst
+            | Operation::BytesReverse
+            | Operation::TextReadFirst
+            | Operation::TextReadLast
+            | Operation::ReadDecimal => &[BYTES, USIZE, USIZE],
+            Operation::BytesGet
+            | Operation::BytesSplitAt
+            | Operation::BytesNextPiece
+            | Operation::BytesCopyWithin => &[BYTES, USIZE, USIZE, USIZE],
+            Operation::BytesSubRange => &[BYTES, USIZE, USIZE, USIZE, USIZE],
+            Operation::BytesStartsWith
+            | Operation::BytesEndsWith
+            | Operation::BytesEqual
+            | Operation::BytesCopyFrom => &[BYTES, USIZE, USIZE, BYTES],
+            Operation::BytesContains => &[BYTES, USIZE, USIZE, U8],
+            Operation::BytesSet => &[BYTES, USIZE, USIZE, USIZE, U8],
+            Operation::TextScalarLen | Operation::TextIsWhiteSpace => &[U32],
+            Operation::TextWrite => &[BYTES, USIZE, U32],
+            Operation::TextIsBoundary | Operation::TextSplitAt => &[BYTES, USIZE],
+            Operation::WriteDecimal => &[BYTES, USIZE, Shape::Own],
+        }
+    }
+
+    pub fn says(self) -> &'static [Shape] {
+        match self {
+            Operation::WrappingAdd
+            | Operation::WrappingAddSigned
+            | Operation::WrappingAddUnsigned
+            | Operation::WrappingSub
+            | Operation::WrappingMul
+            | Operation::WrappingShl
+            | Operation::WrappingShr
+            | Operation::CheckedAdd
+            | Operation::CheckedAddSigned
+            | Operation::CheckedAddUnsigned
+            | Operation::CheckedSub
+            | Operation::CheckedSubUnsigned
+            | Operation::CheckedMul
+            | Operation::CheckedNextMultipleOf
+            | Operation::CheckedDiv
+            | Operation::CheckedDivEuclid
+            | Operation::CheckedRem
+            | Operation::CheckedRemEuclid
+            | Operation::SaturatingAdd
+            | Operation::SaturatingSub
+            | Operation::SaturatingMul
+            | Operation::Clone
+            | Operation::FromLeBytes
+            | Operation::FromBeBytes
+            | Operation::ReadDecimal => &[Shape::Own],
+            Operation::IsMultipleOf
+            | Operation::Eq
+            | Operation::Ne
+            | Operation::Lt
+            | Operation::Le
+            | Operation::Gt
+            | Operation::Ge
+            | Operation::BytesIsEmpty
+            | Operation::BytesStartsWith
+            | Operation::BytesEndsWith
+            | Operation::BytesContains
+            | Operation::BytesEqual
+            | Operation::TextIsWhiteSpace
+            | Operation::TextValid
+            | Operation::TextIsBoundary
+            | Operation::TextIsAscii => &[TRUTH],
+            Operation::Cmp | Operation::Compare | Operation::PartialCmp => &[ORDER],
+            Operation::LeadingZeros
+            | Operation::LeadingOnes
+            | Operation::TrailingZeros
+            | Operation::TrailingOnes => &[U32],
+            Operation::ToLeBytes
+            | Operation::ToBeBytes
+            | Operation::BytesSet
+            | Operation::BytesReverse
+            | Operation::BytesCopyFrom
+            | Operation::BytesCopyWithin
+            | Operation::TextWrite => &[BYTES],
+            Operation::BytesLen
+            | Operation::TextScalarLen
+            | Operation::TextCount
+            | Operation::TextValidUpTo => &[USIZE],
+            Operation::BytesGet | Operation::BytesFirst | Operation::BytesLast => &[U8],
+            Operation::BytesSubRange | Operation::BytesNextPiece => &[USIZE, USIZE],
+            Operation::BytesSplitAt | Operation::TextSplitAt => &[USIZE, USIZE, USIZE],
+            Operation::BytesSplitFirst => &[U8, USIZE, USIZE],
+            Operation::TextReadFirst | Operation::TextReadLast => &[U32, USIZE],
+            Operation::WriteDecimal => &[BYTES, USIZE],
+        }
+    }
+
+    fn owners(self) -> &'static [Group] {
+        match self {
+            Operation::WrappingAdd
+            | Operation::WrappingSub
+            | Operation::WrappingMul
+            | Operation::WrappingShl
+            | Operation::WrappingShr
+            | Operation::CheckedAdd
+            | Operation::CheckedSub
+            | Operation::CheckedMul
+            | Operation::CheckedDiv
+            | Operation::CheckedDivEuclid
+            | Operation::CheckedRem
+            | Operation::CheckedRemEuclid
+            | Operation::Clone
+            | Operation::Eq
+            | Operation::Ne
+            | Operation::Lt
+            | Operation::Le
+            | Operation::Gt
+            | Operation::Ge
+            | Operation::Cmp
+            | Operation::Compare
+            | Operation::PartialCmp
+            | Operation::ReadDecimal
+            | Operation::WriteDecimal => &INTEGERS,
+            Operation::WrappingAddSigned
+            | Operation::CheckedAddSigned
+            | Operation::CheckedNextMultipleOf
+            | Operation::SaturatingAdd
+            | Operation::SaturatingSub
+            | Operation::SaturatingMul
+            | Operation::IsMultipleOf => &UNSIGNED,
+            Operation::WrappingAddUnsigned
+            | Operation::CheckedAddUnsigned
+            | Operation::CheckedSubUnsigned => &SIGNED,
+            Operation::LeadingZeros
+            | Operation::LeadingOnes
+            | Operation::TrailingZeros
+            | Operation::TrailingOnes => &COUNTED,
+            Operation::FromLeBytes
+            | Operation::ToLeBytes
+            | Operation::FromBeBytes
+            | Operation::ToBeBytes => &OF_BYTES,
+            Operation::BytesLen
+            | Operation::BytesIsEmpty
+            | Operation::BytesGet
+            | Operation::BytesFirst
+            | Operation::BytesLast
+            | Operation::BytesSubRange
+            | Operation::BytesSplitAt
+            | Operation::BytesSplitFirst
+            | Operation::BytesNextPiece
+            | Operation::BytesStartsWith
+            | Operation::BytesEndsWith
+            | Operation::BytesContains
+            | Operation::BytesEqual
+            | Operation::BytesSet
+            | Operation::BytesReverse
+            | Operation::BytesCopyFrom
+            | Operation::BytesCopyWithin => &[Group::Bytes],
+            Operation::TextScalarLen
+            | Operation::TextIsWhiteSpace
+            | Operation::TextWrite
+            | Operation::TextReadFirst
+            | Operation::TextReadLast
+            | Operation::TextValid
+            | Operation::TextCount
+            | Operation::TextIsBoundary
+            | Operation::TextSplitAt
+            | Operation::TextIsAscii
+            | Operation::TextValidUpTo => &[Group::Text],
+        }
+    }
+
+    // How it is run.
+    pub fn form(self) -> Form {
+        match self {
+            Operation::WrappingAdd
+            | Operation::WrappingSub
+            | Operation::WrappingMul
+            | Operation::SaturatingAdd
+            | Operation::SaturatingSub
+            | Operation::SaturatingMul => Form::NumberOfNumberNumber,
+            Operation::WrappingAddSigned | Operation::WrappingAddUnsigned =>
+                Form::NumberOfNumberOther,
+            Operation::WrappingShl | Operation::WrappingShr => Form::NumberOfNumberU32,
+            Operation::CheckedAdd
+            | Operation::CheckedSub
+            | Operation::CheckedMul
+            | Operation::CheckedNextMultipleOf
+            | Operation::CheckedDiv
+            | Operation::CheckedDivEuclid
+            | Operation::CheckedRem
+            | Operation::CheckedRemEuclid => Form::CheckedOfNumberNumber,
+            Operation::CheckedAddSigned
+            | Operation::CheckedAddUnsigned
+            | Operation::CheckedSubUnsigned => Form::CheckedOfNumberOther,
+            Operation::IsMultipleOf
+            | Operation::Eq
+            | Operation::Ne
+            | Operation::Lt
+            | Operation::Le
+            | Operation::Gt
+            | Operation::Ge => Form::TestOfNumberNumber,
+            Operation::Clone => Form::NumberOfNumber,
+            Operation::Cmp | Operation::Compare => Form::OrderOfNumberNumber,
+            Operation::PartialCmp => Form::PartialOrderingOfNumberNumber,
+            Operation::LeadingZeros
+            | Operation::LeadingOnes
+            | Operation::TrailingZeros
+            | Operation::TrailingOnes => Form::U32OfNumber,
+            Operation::FromLeBytes
+            | Operation::FromBeBytes
+            | Operation::TextValid
+            | Operation::TextCount
+            | Operation::TextIsAscii
+            | Operation::TextValidUpTo => Form::ReadingBytes,
+            Operation::ToLeBytes | Operation::ToBeBytes => Form::WritingNumber,
+            Operation::BytesLen
+            | Operation::BytesIsEmpty
+            | Operation::BytesFirst
+            | Operation::BytesLast
+            | Operation::BytesSplitFirst
+            | Operation::TextReadFirst
+            | Operation::TextReadLast
+            | Operation::ReadDecimal => Form::ReadingBytesPlacePlace,
+            Operation::BytesGet | Operation::BytesSplitAt | Operation::BytesNextPiece =>
+                Form::ReadingBytesPlacePlacePlace,
+            Operation::BytesSubRange => Form::ReadingBytesPlacePlacePlacePlace,
+            Operation::BytesStartsWith | Operation::BytesEndsWith | Operation::BytesEqual =>
+                Form::ReadingBytesPlacePlaceBytes,
+            Operation::BytesContains => Form::ReadingBytesPlacePlaceByte,
+            Operation::BytesSet => Form::WritingBytesPlacePlacePlaceByte,
+            Operation::BytesReverse => Form::WritingBytesPlacePlace,
+            Operation::BytesCopyFrom => Form::WritingBytesPlacePlaceBytes,
+            Operation::BytesCopyWithin => Form::WritingBytesPlacePlacePlace,
+            Operation::TextScalarLen | Operation::TextIsWhiteSpace => Form::ReadingU32,
+            Operation::TextWrite => Form::WritingBytesPlaceU32,
+            Operation::TextIsBoundary | Operation::TextSplitAt => Form::ReadingBytesPlace,
+            Operation::WriteDecimal => Form::WritingBytesPlaceNumber,
+        }
     }
 }
 
-// ---- kinds
-
-pub fn is_signed(kind: u8) -> bool {
-    (FIRST_SIGNED <= kind) & (kind < KINDS)
+// The ways to run one: those of a form take the same, and on numbers alone give the same.
+#[derive(Clone, Copy, PartialEq, Eq, Debug)]
+pub enum Form {
+    NumberOfNumberNumber,
+    NumberOfNumberOther,
+    NumberOfNumberU32,
+    CheckedOfNumberNumber,
+    CheckedOfNumberOther,
+    TestOfNumberNumber,
+    NumberOfNumber,
+    OrderOfNumberNumber,
+    PartialOrderingOfNumberNumber,
+    U32OfNumber,
+    ReadingBytes,
+    WritingNumber,
+    ReadingBytesPlacePlace,
+    ReadingBytesPlacePlacePlace,
+    ReadingBytesPlacePlacePlacePlace,
+    ReadingBytesPlacePlaceBytes,
+    ReadingBytesPlacePlaceByte,
+    WritingBytesPlacePlacePlaceByte,
+    WritingBytesPlacePlace,
+    WritingBytesPlacePlaceBytes,
+    WritingBytesPlacePlacePlace,
+    ReadingU32,
+    WritingBytesPlaceU32,
+    ReadingBytesPlace,
+    WritingBytesPlaceNumber,
 }
 
-// The kind of the same width and the other sign.
-pub fn other_sign(kind: u8) -> u8 {
-    if kind < FIRST_SIGNED {
-        kind + FIRST_SIGNED
-    } else {
-        kind - FIRST_SIGNED
+// ---- an operation of a group
+
+#[derive(Clone, Copy, PartialEq, Eq, Debug)]
+pub struct Name {
+    pub group: Group,
+    pub operation: Operation,
+}
+
+impl Name {
+    pub fn of(kind: Kind, operation: Operation) -> Name {
+        Name {
+            group: Group::Integers(kind),
+            operation,
+        }
+    }
+
+    // Whether the group has the operation.
+    pub fn is_there(self) -> bool {
+        self.operation.owners().contains(&self.group)
+    }
+
+    // What an argument is by its place, if there is one.
+    pub fn takes(self, place: usize) -> Option<Part> {
+        self.group.part(*self.operation.takes().get(place)?)
+    }
+
+    // What a part of the answer is by its place, if there is one.
+    pub fn says(self, place: usize) -> Option<Part> {
+        self.group.part(*self.operation.says().get(place)?)
+    }
+
+    // How many bytes are handed over, in a slice that the question does not have.
+    pub fn given(self) -> usize {
+        self.group.given(self.operation)
     }
 }
 
-// The bits of a kind, all ones.
-pub fn ones(kind: u8) -> u64
-    ensures { 255 ≤ result }
-{
-    match width(kind) {
-        8 => 0xff,
-        16 => 0xffff,
-        32 => 0xffff_ffff,
-        _ => u64::MAX,
-    }
-}
-
-// The bits of -n.
-pub fn minus(kind: u8, n: u64) -> u64 {
-    let ones = ones(kind);
-    if n == 0 {
-        return 0;
-    }
-    if n <= ones { ones - n + 1 } else { 0 }
-}
-
-// The bits of a signed kind's smallest number.
-pub fn smallest(kind: u8) -> u64
-    ensures { (128 ≤ result) × (result ≤ 9223372036854775808) }
-{
-    ones(kind) / 2 + 1
-}
-
-pub fn width(kind: u8) -> u64
-    ensures { (8 ≤ result) × (result ≤ 64) }
-{
-    match kind {
-        U8 | I8 => 8,
-        U16 | I16 => 16,
-        U32 | I32 => 32,
-        _ => 64,
+// `u8.wrapping_add`
+impl fmt::Display for Name {
+    fn fmt<W: fmt::Write>(&self, f: &mut fmt::Formatter<W>) -> fmt::Result {
+        write!(f, "{}.{}", self.group, self.operation.name())
     }
 }
 
 // ---- arguments and answers
 
-// The numbers among the arguments by their bits, of a number of 128 bits the upper ones apart; only the first two can be so wide.
-#[derive(Clone, Copy)]
-pub struct Numbers {
-    pub first: u64,
-    pub first_high: u64,
-    pub second: u64,
-    pub second_high: u64,
-    pub third: u64,
-    pub fourth: u64,
-}
+// The numbers among the arguments, by their bits.
+pub type Numbers = [u64; 4];
 
-pub fn three(first: u64, second: u64, third: u64) -> Numbers {
-    Numbers {
-        first,
-        first_high: 0,
-        second,
-        second_high: 0,
-        third,
-        fourth: 0,
-    }
-}
-
-// The parts of an answer by their bits, those of a first number of 128 bits apart. A truth is 0 or 1, a comparison one of the three below; of bytes nothing
-// stands here.
-#[derive(Clone, Copy)]
-pub struct Answer {
-    pub ok: bool,
-    pub first: u64,
-    pub first_high: u64,
-    pub second: u64,
-    pub third: u64,
-    pub fourth: u64,
-}
+// The parts of an answer by their bits. A truth is 0 or 1, a comparison one of the three below; of bytes nothing stands here.
+pub type Parts = [u64; 4];
 
 pub const LESS: u64 = 0;
 
@@ -456,23 +903,9 @@ pub const EQUAL: u64 = 1;
 
 pub const GREATER: u64 = 2;
 
-pub fn parts(ok: bool, first: u64, second: u64, third: u64) -> Answer {
-    Answer {
-        ok,
-        first,
-        first_high: 0,
-        second,
-        third,
-        fourth: 0,
-    }
-}
-
-pub fn found(first: u64) -> Answer {
-    parts(true, first, 0, 0)
-}
-
-pub fn refused() -> Answer {
-    parts(false, 0, 0, 0)
+// An answer of one part.
+pub fn found(first: u64) -> Option<Parts> {
+    Some([first, 0, 0, 0])
 }
 
 pub fn bit(yes: bool) -> u64 {
@@ -480,26 +913,12 @@ pub fn bit(yes: bool) -> u64 {
 }
 
 // What a comparison's number says; no other number is one.
-pub fn order(number: i8) -> Answer {
-    if number == -1 {
-        return found(LESS);
-    }
-    if number == 0 {
-        return found(EQUAL);
-    }
-    if number == 1 {
-        return found(GREATER);
-    }
-    refused()
-}
-
-// The bits of an answer's part by its place.
-pub fn part(answer: Answer, place: usize) -> u64 {
-    match place {
-        0 => answer.first,
-        1 => answer.second,
-        2 => answer.third,
-        _ => answer.fourth,
+pub fn order(number: i8) -> Option<Parts> {
+    match number {
+        -1 => found(LESS),
+        0 => found(EQUAL),
+        1 => found(GREATER),
+        _ => None,
     }
 }
 

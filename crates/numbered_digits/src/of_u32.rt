@@ -1,61 +1,57 @@
-// The operations of u32 that take or answer bytes by their numbers, as the faces export them.
-use numbered::{Answer, Numbers};
+// The operations of u32 that take or answer bytes, as the faces export them.
+use numbered::{Form, Numbers, Operation, Parts};
 
-pub fn run(operation: u8, s: &mut [u8], n: Numbers) -> Answer {
-    let first = n.first;
-    let second = n.second;
+pub fn run(operation: Operation, s: &mut [u8], n: Numbers) -> Option<Parts> {
+    let first = n[0];
+    let second = n[1];
     let a_u32 = numbered::low32(first);
     let a = first as usize;
     let b_u32 = numbered::low32(second);
-    match numbered::form(operation) {
-        numbered::WRITING_NUMBER => writing_number(operation, a_u32, s, 0),
-        numbered::WRITING_BYTES_PLACE_NUMBER => {
-            as_length_said_s_value(promisebook_decimal::pb_u32_write_decimal(b_u32, s, a))
+    match operation.form() {
+        Form::WritingNumber => writing_number(operation, a_u32, s, 0),
+        Form::WritingBytesPlaceNumber => {
+            as_place_said_s_value(promisebook_decimal::pb_u32_write_decimal(b_u32, s, a))
         }
         _ => reading(operation, s, n),
     }
 }
 
-fn reading(operation: u8, s: &[u8], n: Numbers) -> Answer {
-    let first = n.first;
-    let second = n.second;
+fn reading(operation: Operation, s: &[u8], n: Numbers) -> Option<Parts> {
+    let first = n[0];
+    let second = n[1];
     let a = first as usize;
     let b = second as usize;
-    match numbered::form(operation) {
-        numbered::READING_BYTES => reading_bytes(operation, s),
-        numbered::READING_BYTES_PLACE_PLACE => {
-            as_checked_of_unsigned32_sums(promisebook_decimal::pb_u32_read_decimal(s, a, b))
+    match operation.form() {
+        Form::ReadingBytes => reading_bytes(operation, s),
+        Form::ReadingBytesPlacePlace => {
+            as_checked(promisebook_decimal::pb_u32_read_decimal(s, a, b))
         }
-        _ => numbered::refused(),
+        _ => None,
     }
 }
 
-fn reading_bytes(operation: u8, s: &[u8]) -> Answer {
+fn reading_bytes(operation: Operation, s: &[u8]) -> Option<Parts> {
     match operation {
-        numbered::FROM_LE_BYTES => as_checked(promisebook_number_bytes::pb_u32_from_le_bytes(s)),
+        Operation::FromLeBytes => as_checked(promisebook_number_bytes::pb_u32_from_le_bytes(s)),
         _ => as_checked(promisebook_number_bytes::pb_u32_from_be_bytes(s)),
     }
 }
 
-fn writing_number(operation: u8, x: u32, s: &mut [u8], at: usize) -> Answer {
+fn writing_number(operation: Operation, x: u32, s: &mut [u8], at: usize) -> Option<Parts> {
     match operation {
-        numbered::TO_LE_BYTES => as_done(promisebook_number_bytes::pb_u32_to_le_bytes(x, s, at)),
+        Operation::ToLeBytes => as_done(promisebook_number_bytes::pb_u32_to_le_bytes(x, s, at)),
         _ => as_done(promisebook_number_bytes::pb_u32_to_be_bytes(x, s, at)),
     }
 }
 
-fn as_checked(r: number_bytes32::Checked) -> Answer {
-    numbered::parts(r.ok, r.value as u64, 0, 0)
+fn as_checked(r: answers::AnswerU32) -> Option<Parts> {
+    r.ok.then_some([r.value as u64, 0, 0, 0])
 }
 
-fn as_done(r: bool) -> Answer {
-    numbered::parts(r, 0, 0, 0)
+fn as_done(r: bool) -> Option<Parts> {
+    r.then_some([0; 4])
 }
 
-fn as_checked_of_unsigned32_sums(r: unsigned32_sums::Checked) -> Answer {
-    numbered::parts(r.ok, r.value as u64, 0, 0)
-}
-
-fn as_length_said_s_value(r: decimal_write::Length) -> Answer {
-    numbered::parts(r.ok, 0, r.value as u64, 0)
+fn as_place_said_s_value(r: answers::AnswerUsize) -> Option<Parts> {
+    r.ok.then_some([0, r.value as u64, 0, 0])
 }

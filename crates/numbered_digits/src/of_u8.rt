@@ -1,36 +1,36 @@
-// The operations of u8 that take or answer bytes by their numbers, as the faces export them.
-use numbered::{Answer, Numbers};
+// The operations of u8 that take or answer bytes, as the faces export them.
+use numbered::{Form, Numbers, Operation, Parts};
 
-pub fn run(operation: u8, s: &mut [u8], n: Numbers) -> Answer {
-    let first = n.first;
-    let second = n.second;
+pub fn run(operation: Operation, s: &mut [u8], n: Numbers) -> Option<Parts> {
+    let first = n[0];
+    let second = n[1];
     let a = first as usize;
     let b_u8 = numbered::low8(second);
-    match numbered::form(operation) {
-        numbered::WRITING_BYTES_PLACE_NUMBER => {
-            as_length_said_s_value(promisebook_decimal::pb_u8_write_decimal(b_u8, s, a))
+    match operation.form() {
+        Form::WritingBytesPlaceNumber => {
+            as_place_said_s_value(promisebook_decimal::pb_u8_write_decimal(b_u8, s, a))
         }
         _ => reading(operation, s, n),
     }
 }
 
-fn reading(operation: u8, s: &[u8], n: Numbers) -> Answer {
-    let first = n.first;
-    let second = n.second;
+fn reading(operation: Operation, s: &[u8], n: Numbers) -> Option<Parts> {
+    let first = n[0];
+    let second = n[1];
     let a = first as usize;
     let b = second as usize;
-    match numbered::form(operation) {
-        numbered::READING_BYTES_PLACE_PLACE => {
+    match operation.form() {
+        Form::ReadingBytesPlacePlace => {
             as_checked(promisebook_decimal::pb_u8_read_decimal(s, a, b))
         }
-        _ => numbered::refused(),
+        _ => None,
     }
 }
 
-fn as_checked(r: unsigned8_sums::Checked) -> Answer {
-    numbered::parts(r.ok, r.value as u64, 0, 0)
+fn as_checked(r: answers::AnswerU8) -> Option<Parts> {
+    r.ok.then_some([r.value as u64, 0, 0, 0])
 }
 
-fn as_length_said_s_value(r: decimal_write::Length) -> Answer {
-    numbered::parts(r.ok, 0, r.value as u64, 0)
+fn as_place_said_s_value(r: answers::AnswerUsize) -> Option<Parts> {
+    r.ok.then_some([0, r.value as u64, 0, 0])
 }

@@ -1,116 +1,106 @@
-// The operations of isize on numbers alone by their numbers (crate `numbered`), as the faces export them (written by generate/ from the table of operations).
+// The operations of isize on numbers alone (crate `numbered`), as the faces export them (written by generate/ from the table of operations).
 #![tactic(auto)]
 
-use numbered::{Answer, Numbers};
-use signed_size_sums as own;
-use unsigned_size_sums as other;
+use numbered::{Form, Numbers, Operation, Parts};
 
 // Arguments are cut down to their kind's width.
-pub fn run(operation: u8, n: Numbers) -> Answer {
-    handed(operation, n.first, n.second)
-}
-
-fn handed(operation: u8, first: u64, second: u64) -> Answer {
-    let a_isize = own::wrapped(first as usize);
-    let b_isize = own::wrapped(second as usize);
+pub fn run(operation: Operation, n: Numbers) -> Option<Parts> {
+    let first = n[0];
+    let second = n[1];
+    let a_isize = (first as usize).cast_signed();
+    let b_isize = (second as usize).cast_signed();
     let b = second as usize;
     let b_u32 = numbered::low32(second);
-    match numbered::form(operation) {
-        numbered::NUMBER_OF_NUMBER_OTHER => {
+    match operation.form() {
+        Form::NumberOfNumberOther => {
             as_number(promisebook_isize::pb_isize_wrapping_add_unsigned(a_isize, b))
         }
-        numbered::NUMBER_OF_NUMBER_U32 => number_of_number_u32(operation, a_isize, b_u32),
-        numbered::CHECKED_OF_NUMBER_OTHER => checked_of_number_other(operation, a_isize, b),
-        numbered::NUMBER_OF_NUMBER => as_number(promisebook_isize::pb_isize_clone(a_isize)),
+        Form::NumberOfNumberU32 => number_of_number_u32(operation, a_isize, b_u32),
+        Form::CheckedOfNumberOther => checked_of_number_other(operation, a_isize, b),
+        Form::NumberOfNumber => as_number(promisebook_isize::pb_isize_clone(a_isize)),
         _ => of_common(operation, a_isize, b_isize),
     }
 }
 
 // Those that take what most of them take.
-fn of_common(operation: u8, a_isize: isize, b_isize: isize) -> Answer {
-    match numbered::form(operation) {
-        numbered::NUMBER_OF_NUMBER_NUMBER => number_of_number_number(operation, a_isize, b_isize),
-        numbered::CHECKED_OF_NUMBER_NUMBER => checked_of_number_number(operation, a_isize, b_isize),
-        numbered::TEST_OF_NUMBER_NUMBER => test_of_number_number(operation, a_isize, b_isize),
-        numbered::ORDER_OF_NUMBER_NUMBER => {
-            as_order(promisebook_isize::pb_isize_cmp(a_isize, b_isize))
-        }
-        numbered::PARTIAL_ORDERING_OF_NUMBER_NUMBER => {
+fn of_common(operation: Operation, a_isize: isize, b_isize: isize) -> Option<Parts> {
+    match operation.form() {
+        Form::NumberOfNumberNumber => number_of_number_number(operation, a_isize, b_isize),
+        Form::CheckedOfNumberNumber => checked_of_number_number(operation, a_isize, b_isize),
+        Form::TestOfNumberNumber => test_of_number_number(operation, a_isize, b_isize),
+        Form::OrderOfNumberNumber => as_order(promisebook_isize::pb_isize_cmp(a_isize, b_isize)),
+        Form::PartialOrderingOfNumberNumber => {
             as_partial_ordering(promisebook_isize::pb_isize_partial_cmp(a_isize, b_isize))
         }
-        _ => numbered::refused(),
+        _ => None,
     }
 }
 
-fn number_of_number_number(operation: u8, x: isize, y: isize) -> Answer {
+fn number_of_number_number(operation: Operation, x: isize, y: isize) -> Option<Parts> {
     match operation {
-        numbered::WRAPPING_ADD => as_number(promisebook_isize::pb_isize_wrapping_add(x, y)),
-        numbered::WRAPPING_SUB => as_number(promisebook_isize::pb_isize_wrapping_sub(x, y)),
+        Operation::WrappingAdd => as_number(promisebook_isize::pb_isize_wrapping_add(x, y)),
+        Operation::WrappingSub => as_number(promisebook_isize::pb_isize_wrapping_sub(x, y)),
         _ => as_number(promisebook_isize::pb_isize_wrapping_mul(x, y)),
     }
 }
 
-fn number_of_number_u32(operation: u8, x: isize, rhs: u32) -> Answer {
+fn number_of_number_u32(operation: Operation, x: isize, rhs: u32) -> Option<Parts> {
     match operation {
-        numbered::WRAPPING_SHL => as_number(promisebook_isize::pb_isize_wrapping_shl(x, rhs)),
+        Operation::WrappingShl => as_number(promisebook_isize::pb_isize_wrapping_shl(x, rhs)),
         _ => as_number(promisebook_isize::pb_isize_wrapping_shr(x, rhs)),
     }
 }
 
-fn checked_of_number_number(operation: u8, x: isize, y: isize) -> Answer {
+fn checked_of_number_number(operation: Operation, x: isize, y: isize) -> Option<Parts> {
     match operation {
-        numbered::CHECKED_ADD => as_checked(promisebook_isize::pb_isize_checked_add(x, y)),
-        numbered::CHECKED_SUB => as_checked(promisebook_isize::pb_isize_checked_sub(x, y)),
-        numbered::CHECKED_MUL => as_checked(promisebook_isize::pb_isize_checked_mul(x, y)),
-        numbered::CHECKED_DIV => as_checked(promisebook_isize::pb_isize_checked_div(x, y)),
-        numbered::CHECKED_DIV_EUCLID => {
+        Operation::CheckedAdd => as_checked(promisebook_isize::pb_isize_checked_add(x, y)),
+        Operation::CheckedSub => as_checked(promisebook_isize::pb_isize_checked_sub(x, y)),
+        Operation::CheckedMul => as_checked(promisebook_isize::pb_isize_checked_mul(x, y)),
+        Operation::CheckedDiv => as_checked(promisebook_isize::pb_isize_checked_div(x, y)),
+        Operation::CheckedDivEuclid => {
             as_checked(promisebook_isize::pb_isize_checked_div_euclid(x, y))
         }
-        numbered::CHECKED_REM => as_checked(promisebook_isize::pb_isize_checked_rem(x, y)),
+        Operation::CheckedRem => as_checked(promisebook_isize::pb_isize_checked_rem(x, y)),
         _ => as_checked(promisebook_isize::pb_isize_checked_rem_euclid(x, y)),
     }
 }
 
-fn checked_of_number_other(operation: u8, x: isize, y: usize) -> Answer {
+fn checked_of_number_other(operation: Operation, x: isize, y: usize) -> Option<Parts> {
     match operation {
-        numbered::CHECKED_ADD_UNSIGNED => {
+        Operation::CheckedAddUnsigned => {
             as_checked(promisebook_isize::pb_isize_checked_add_unsigned(x, y))
         }
         _ => as_checked(promisebook_isize::pb_isize_checked_sub_unsigned(x, y)),
     }
 }
 
-fn test_of_number_number(operation: u8, x: isize, y: isize) -> Answer {
+fn test_of_number_number(operation: Operation, x: isize, y: isize) -> Option<Parts> {
     match operation {
-        numbered::EQ => as_test(promisebook_isize::pb_isize_eq(x, y)),
-        numbered::NE => as_test(promisebook_isize::pb_isize_ne(x, y)),
-        numbered::LT => as_test(promisebook_isize::pb_isize_lt(x, y)),
-        numbered::LE => as_test(promisebook_isize::pb_isize_le(x, y)),
-        numbered::GT => as_test(promisebook_isize::pb_isize_gt(x, y)),
+        Operation::Eq => as_test(promisebook_isize::pb_isize_eq(x, y)),
+        Operation::Ne => as_test(promisebook_isize::pb_isize_ne(x, y)),
+        Operation::Lt => as_test(promisebook_isize::pb_isize_lt(x, y)),
+        Operation::Le => as_test(promisebook_isize::pb_isize_le(x, y)),
+        Operation::Gt => as_test(promisebook_isize::pb_isize_gt(x, y)),
         _ => as_test(promisebook_isize::pb_isize_ge(x, y)),
     }
 }
 
-fn as_number(r: isize) -> Answer {
-    numbered::found(other::wrapped(r) as u64)
+fn as_number(r: isize) -> Option<Parts> {
+    numbered::found(r.cast_unsigned() as u64)
 }
 
-fn as_checked(r: signed_size_sums::Checked) -> Answer {
-    numbered::parts(r.ok, other::wrapped(r.value) as u64, 0, 0)
+fn as_checked(r: answers::AnswerIsize) -> Option<Parts> {
+    r.ok.then_some([r.value.cast_unsigned() as u64, 0, 0, 0])
 }
 
-fn as_test(r: bool) -> Answer {
+fn as_test(r: bool) -> Option<Parts> {
     numbered::found(numbered::bit(r))
 }
 
-fn as_order(r: i8) -> Answer {
+fn as_order(r: i8) -> Option<Parts> {
     numbered::order(r)
 }
 
-fn as_partial_ordering(r: ordering::PartialOrdering) -> Answer {
-    if r.ok {
-        numbered::order(r.value)
-    } else {
-        numbered::refused()
-    }
+fn as_partial_ordering(r: answers::AnswerI8) -> Option<Parts> {
+    if r.ok { numbered::order(r.value) } else { None }
 }

@@ -7,133 +7,86 @@ mod said;
 mod takes;
 
 use asked::{arguments, names};
+use numbered::{Name, Part};
 use std::io;
 use std::io::Write;
-use words::line::{Word, Words};
+use words::line::Words;
 
 pub fn tell<W: Write>(out: &mut W, line: &[u8]) -> io::Result<()> {
-    if line.len() == 0 {
+    if line.is_empty() {
         said::begin(out)?;
         return said::text(
             out,
-            b"a question is a name and its arguments; --help lists them\n",
+            "a question is a name and its arguments; --help lists them\n",
         );
     }
-    let words = words::line::split(line);
-    let name = names::read(line, words.word(0));
-    if name.ok {
-        known(out, name.kind, name.operation, line, words)
-    } else {
-        unknown(out, line, words.word(0))
+    let words = Words::of(line);
+    match names::read(words.name()) {
+        Some(name) => known(out, name, words),
+        None => unknown(out, words.name()),
     }
 }
 
 pub fn tell_too_long<W: Write>(out: &mut W) -> io::Result<()> {
     said::begin(out)?;
-    said::text(out, b"a question has at most 65536 bytes\n")
+    said::text(out, "a question has at most 65536 bytes\n")
 }
 
-fn unknown<W: Write>(out: &mut W, line: &[u8], word: Word) -> io::Result<()> {
-    let from = word.from;
-    let to = word.to;
-    if to < from {
-        return Ok(());
-    }
-    if line.len() < to {
-        return Ok(());
-    }
+fn unknown<W: Write>(out: &mut W, word: &[u8]) -> io::Result<()> {
     said::begin(out)?;
-    said::text(out, b"there is no ")?;
-    said::shown(out, &line[from..to])?;
-    near::tell(out, &line[from..to])
+    said::text(out, "there is no ")?;
+    said::shown(out, word)?;
+    near::tell(out, word)
 }
 
-fn known<W: Write>(
-    out: &mut W,
-    kind: u8,
-    operation: u8,
-    line: &[u8],
-    words: Words,
-) -> io::Result<()> {
-    if words.count != arguments::words_of(kind, operation) {
-        return takes::tell(out, kind, operation);
+fn known<W: Write>(out: &mut W, name: Name, words: Words<'_>) -> io::Result<()> {
+    if words.count != arguments::words_of(name) {
+        return takes::tell(out, name);
     }
-    argument(out, kind, operation, line, words, 0)?;
-    argument(out, kind, operation, line, words, 1)?;
-    argument(out, kind, operation, line, words, 2)?;
-    argument(out, kind, operation, line, words, 3)?;
-    argument(out, kind, operation, line, words, 4)
+    for place in 0..name.operation.takes().len() {
+        argument(out, name.takes(place), words.argument(place))?;
+    }
+    Ok(())
 }
 
 // Says what is wrong with an argument, if anything is.
-fn argument<W: Write>(
-    out: &mut W,
-    kind: u8,
-    operation: u8,
-    line: &[u8],
-    words: Words,
-    place: usize,
-) -> io::Result<()> {
-    let taken = numbered::takes(kind, operation, place);
-    let word = words.argument(place);
-    let from = word.from;
-    let to = word.to;
-    if to < from {
-        return Ok(());
-    }
-    if line.len() < to {
-        return Ok(());
-    }
+fn argument<W: Write>(out: &mut W, taken: Option<Part>, word: &[u8]) -> io::Result<()> {
     match taken {
-        numbered::NOTHING => Ok(()),
-        numbered::SLICE => bytes(out, &line[from..to]),
-        _ => number(out, taken, &line[from..to]),
+        None => Ok(()),
+        Some(Part::Bytes) => bytes(out, word),
+        Some(part) => number(out, part, word),
     }
 }
 
-fn number<W: Write>(out: &mut W, kind: u8, word: &[u8]) -> io::Result<()> {
-    let read = spelled::read(kind, word, 0, word.len());
-    if read.ok {
+fn number<W: Write>(out: &mut W, part: Part, word: &[u8]) -> io::Result<()> {
+    if spelled::read(part, word).is_some() {
         return Ok(());
     }
     said::begin(out)?;
     said::shown(out, word)?;
-    said::text(out, b" is no ")?;
-    said::kind(out, kind)?;
-    said::text(out, b": ")?;
-    said::range(out, kind)
+    said::text(out, " is no ")?;
+    said::part(out, part)?;
+    said::text(out, ": ")?;
+    said::range(out, part)
 }
 
 fn bytes<W: Write>(out: &mut W, word: &[u8]) -> io::Result<()> {
     let mut room = [0u8; 32768];
-    let read = spelled::hex::read(word, 0, word.len(), &mut room);
-    if read.ok {
+    if spelled::hex::read(word, &mut room).is_some() {
         return Ok(());
     }
     said::begin(out)?;
     said::shown(out, word)?;
-    said::text(out, b" is no bytes: ")?;
-    if word.len() == 0 {
-        said::text(out, b"- is for none\n")
-    } else if has_other(word) {
-        said::text(out, b"each is two of the digits 0 to 9 and a to f\n")
+    said::text(out, " is no bytes: ")?;
+    if word.is_empty() {
+        said::text(out, "- is for none\n")
+    } else if word.iter().all(is_digit) {
+        said::text(out, "each is two digits, and one is missing\n")
     } else {
-        said::text(out, b"each is two digits, and one is missing\n")
+        said::text(out, "each is two of the digits 0 to 9 and a to f\n")
     }
 }
 
-// Whether the word has another byte than a digit.
-fn has_other(word: &[u8]) -> bool {
-    let mut i = 0;
-    while i < word.len() {
-        if !is_digit(word[i]) {
-            return true;
-        }
-        i += 1;
-    }
-    false
-}
-
-fn is_digit(b: u8) -> bool {
-    ((b'0' <= b) & (b <= b'9')) | ((b'a' <= b) & (b <= b'f'))
+fn is_digit(b: &u8) -> bool {
+    matches!(b, b'0'..=b'9' | b'a'..=b'f')
 }

@@ -1,84 +1,62 @@
 // How reasons are written.
+use numbered::{Kind, Part};
 use std::io;
 use std::io::Write;
-use words::list::Place;
 
 // No more of a word is shown.
 const MOST: usize = 60;
 
-pub fn text<W: Write>(out: &mut W, words: &[u8]) -> io::Result<()> {
-    out.write_all(words)
+pub fn text<W: Write>(out: &mut W, words: &str) -> io::Result<()> {
+    out.write_all(words.as_bytes())
 }
 
 pub fn begin<W: Write>(out: &mut W) -> io::Result<()> {
-    text(out, b"ask: ")
+    text(out, "ask: ")
 }
 
 // A word of the question; of a long one its beginning.
 pub fn shown<W: Write>(out: &mut W, word: &[u8]) -> io::Result<()> {
-    if word.len() == 0 {
-        text(out, b"''")
-    } else if word.len() <= MOST {
-        text(out, word)
-    } else {
-        text(out, &word[0..MOST])?;
-        text(out, b"..")
+    if word.is_empty() {
+        return text(out, "''");
     }
-}
-
-// A word of a list by its place.
-pub fn word<W: Write>(out: &mut W, list: &[u8], place: Place) -> io::Result<()> {
-    let from = place.from;
-    let to = place.to;
-    if to < from {
-        return Ok(());
+    match word.get(..MOST) {
+        Some(beginning) if MOST < word.len() => {
+            out.write_all(beginning)?;
+            text(out, "..")
+        }
+        _ => out.write_all(word),
     }
-    if list.len() < to {
-        return Ok(());
-    }
-    text(out, &list[from..to])
-}
-
-pub fn name<W: Write>(out: &mut W, kind: u8, operation: u8) -> io::Result<()> {
-    group(out, kind)?;
-    text(out, b".")?;
-    word(
-        out,
-        &numbered::NAMES,
-        words::list::word(&numbered::NAMES, operation),
-    )
-}
-
-fn group<W: Write>(out: &mut W, kind: u8) -> io::Result<()> {
-    word(
-        out,
-        &numbered::GROUPS,
-        words::list::word(&numbered::GROUPS, kind),
-    )
 }
 
 // What an argument is of.
-pub fn kind<W: Write>(out: &mut W, kind: u8) -> io::Result<()> {
-    match kind {
-        numbered::SLICE => text(out, b"bytes"),
-        numbered::TRUTH => text(out, b"truth"),
-        _ => group(out, kind),
+pub fn part<W: Write>(out: &mut W, part: Part) -> io::Result<()> {
+    match part {
+        Part::Number(kind) => kind_of_number(out, kind),
+        Part::Truth => text(out, "truth"),
+        Part::Order => text(out, "order"),
+        Part::Bytes => text(out, "bytes"),
     }
+}
+
+fn kind_of_number<W: Write>(out: &mut W, kind: Kind) -> io::Result<()> {
+    write!(out, "{kind}")
 }
 
 // From the smallest to the largest of a kind.
-pub fn range<W: Write>(out: &mut W, kind: u8) -> io::Result<()> {
-    if kind == numbered::TRUTH {
-        text(out, b"true or false\n")
-    } else if numbered::is_signed(kind) {
-        let n = numbered::smallest(kind);
-        text(out, b"-")?;
-        up_to(out, n, n - 1)
-    } else {
-        up_to(out, 0, numbered::ones(kind))
+pub fn range<W: Write>(out: &mut W, part: Part) -> io::Result<()> {
+    match part {
+        Part::Number(kind) => numbers(out, kind),
+        _ => text(out, "true or false\n"),
     }
 }
 
-fn up_to<W: Write>(out: &mut W, first: u64, last: u64) -> io::Result<()> {
-    writeln!(out, "{first} to {last}")
+fn numbers<W: Write>(out: &mut W, kind: Kind) -> io::Result<()> {
+    if kind.is_signed() {
+        let size = kind.smallest();
+        let last = size - 1;
+        writeln!(out, "-{size} to {last}")
+    } else {
+        let last = kind.ones();
+        writeln!(out, "0 to {last}")
+    }
 }

@@ -1,11 +1,10 @@
 // The numbers of u64 as questions and answers spell them.
-use crate::Number;
-
-pub fn read(s: &[u8], from: usize, to: usize) -> Number {
-    let r = promisebook_decimal::pb_u64_read_decimal(s, from, to);
-    crate::of_bits(r.ok, r.value)
+pub fn read(s: &[u8]) -> Option<u64> {
+    let r = promisebook_decimal::pb_u64_read_decimal(s, 0, s.len());
+    r.ok.then_some(r.value)
 }
 
-pub fn write(out: &mut [u8], at: usize, low: u64) -> decimal_write::Length {
-    promisebook_decimal::pb_u64_write_decimal(low, out, at)
+// How many bytes are written.
+pub fn write(out: &mut [u8], at: usize, bits: u64) -> usize {
+    promisebook_decimal::pb_u64_write_decimal(bits, out, at).value
 }

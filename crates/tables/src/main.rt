@@ -2,12 +2,12 @@
 #![tactic(auto)]
 
 mod digits;
-mod integers;
+mod numbers;
 
 use std::io;
 
 fn main(rt: HostRuntime) -> io::Result<()> {
     let mut out = rt.stdout();
-    integers::lines(&mut out)?;
+    numbers::lines(&mut out)?;
     digits::lines(&mut out)
 }

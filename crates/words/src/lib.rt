@@ -1,6 +1,5 @@
-// Words with single spaces between: those of a line, and those of a list of names, where a word has a number.
+// The words of a line, and the first place of a byte.
 #![tactic(auto)]
 
 pub mod line;
-pub mod list;
 pub mod places;

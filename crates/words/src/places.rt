@@ -5,16 +5,10 @@ ghost use Rattle.words.specs.Places.{FirstFrom};
 pub fn first_from(s: &[u8], from: usize, v: u8) -> usize
     ensures { FirstFrom s.now from v result }
 {
-    let n = s.len();
-    if n < from {
-        return n;
-    }
-    let mut i = from;
-    while i < n {
+    for i in from..s.len() {
         if s[i] == v {
             return i;
         }
-        i += 1;
     }
-    i
+    s.len()
 }

@@ -1,8 +1,5 @@
-use Prim.Native.Nat.{◌-◌, ◌*◌, ◌≤◌}
+use Prim.Native.Nat.{◌*◌, ◌≤◌}
 use Rattle.every_bit.proofs.trips_64.Given as goal
 
 abbrev pub invariant-loop-k : goal.invariant-loop-k
-invariant-loop-k g l = (l.k ≤ 64) × (l.wrong ≤ 6 * l.k)
-
-abbrev pub decreases-loop-k : goal.decreases-loop-k
-decreases-loop-k g l = 64 - l.k
+invariant-loop-k g l = l.wrong ≤ 6 * l.k

@@ -1,8 +1,5 @@
-use Prim.Native.Nat.{◌*◌, ◌≤◌, ◌-◌}
+use Prim.Native.Nat.{◌*◌, ◌≤◌}
 use Rattle.every_pair.proofs.row.Given as goal
 
 abbrev pub invariant-loop-b : goal.invariant-loop-b
-invariant-loop-b l = (l.count ≤ 256 * l.b) × (l.b ≤ l.end) × (l.end ≤ 256)
-
-abbrev pub decreases-loop-b : goal.decreases-loop-b
-decreases-loop-b l = l.end - l.b
+invariant-loop-b l = l.count ≤ 256 * l.b

@@ -8,12 +8,6 @@ use Rattle.theory_lists.specs.Search.{holds_at, is}
 use Rattle.theory_lists.proofs.Search.{each_join, each_one, each_less}
 use Rattle.words.proofs.places.first_from.Goals as goal
 
-pub returns-then-n-from : goal.returns-then-n-from
-returns-then-n-from c = record { after = search rules; before = search rules; holds = λ l. absurd (omega arith); none = λ k h l. absurd (omega arith) }
-
-pub loop-i-init : goal.loop-i-init
-loop-i-init c = (search rules, λ k h l. absurd (omega arith))
-
 pub returns-then-s-i : goal.returns-then-s-i
 returns-then-s-i c =
     let loop = c.loop-i in
@@ -22,7 +16,7 @@ returns-then-s-i c =
       after = search rules;
       before = search rules;
       holds = λ l. eq-eqb (get_or args.s.now loop.i 0) args.v c.if-s-i.true;
-      none = each_less false _ args.from loop.i _ loop.i (omega arith) (omega arith) loop.invariant.1;
+      none = each_less false _ args.from loop.i _ loop.i (omega arith) (omega arith) loop.invariant;
     }
 
 pub loop-i-preserved : goal.loop-i-preserved
@@ -30,7 +24,7 @@ loop-i-preserved c =
     let loop = c.loop-i in
     let args = c.args in
     let next = each_one false (holds_at (is args.v) args.s.now) loop.i (ne_eqb (get_or args.s.now loop.i 0) args.v c.if-s-i.false) in
-    (search rules, each_join false _ args.from loop.i (loop.i + 1) loop.invariant.1 next)
+    each_join false _ args.from loop.i (loop.i + 1) loop.invariant next
 
 pub returns : goal.returns
 returns c =
@@ -40,5 +34,5 @@ returns c =
       after = search rules;
       before = search rules;
       holds = λ l. absurd (omega arith);
-      none = each_less false _ args.from loop.i _ loop.i (omega arith) (omega arith) loop.invariant.1;
+      none = λ k h l. loop.invariant k (omega arith) (omega arith);
     }

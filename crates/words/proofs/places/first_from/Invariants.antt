@@ -1,9 +1,5 @@
-use Prim.Native.Nat.{◌-◌, ◌≤◌}
 use Rattle.theory_lists.specs.Search.{None, holds_at, is}
 use Rattle.words.proofs.places.first_from.Given as goal
 
 abbrev pub invariant-loop-i : goal.invariant-loop-i
-invariant-loop-i l = ((l.from ≤ l.i) × (l.i ≤ l.n)) × None (holds_at (is l.v) l.s) l.from l.i
-
-abbrev pub decreases-loop-i : goal.decreases-loop-i
-decreases-loop-i l = l.n - l.i
+invariant-loop-i l = None (holds_at (is l.v) l.s) l.from l.i
