@@ -10,13 +10,13 @@ from templates import CRATES, PROOF, TEMPLATES, filled, read
 SOURCE = os.path.join(TEMPLATES, "bench_loops")
 CRATE = os.path.join(CRATES, "bench_loops")
 
-# The kinds of the loops, and the crate of each whose operations they run.
-KINDS = [("i32", "signed32_sums"), ("i64", "signed64_sums"), ("u32", "unsigned32_sums"), ("u64", "unsigned64_sums")]
+# The kinds of the loops, each with its sign.
+KINDS = [("i32", "signed"), ("i64", "signed"), ("u32", "unsigned"), ("u64", "unsigned")]
 
 
 def parts():
-    for kind, crate in KINDS:
-        table = {"KIND": kind, "OWN": crate}
+    for kind, sign in KINDS:
+        table = {"KIND": kind, "SIGN": sign}
         yield "checked", table
         yield "wrapping", table
         if kind.startswith("u"):

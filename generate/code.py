@@ -1,28 +1,37 @@
-"""Rattle code as the formatter lays it out: constants, tables of bytes, functions that choose by a number."""
+"""Rattle code as the formatter lays it out: enums, constants that list values, functions that choose."""
 
 WIDEST = 100
 
 
-def constant(name, kind, value):
-    return "pub const %s: %s = %s;\n" % (name, kind, value)
+def enum(name, variants, comment=""):
+    """An enum of variants without fields."""
+    head = "// %s\n" % comment if comment else ""
+    return head + "#[derive(Clone, Copy, PartialEq, Eq, Debug)]\npub enum %s {\n%s}\n" % (name, "".join("    %s,\n" % variant for variant in variants))
 
 
-def constants(kind, values):
-    """Constants, apart by blank lines: {name: value}."""
-    return "\n".join(constant(name, kind, value) for name, value in values.items())
+def listed(head, values, pad=""):
+    """A constant that lists values: on one line, or one a line."""
+    values = list(values)
+    line = "%s = [%s];\n" % (pad + head, ", ".join(values))
+    if len(line) <= WIDEST + 1:
+        return line
+    return "%s = [\n%s%s];\n" % (pad + head, "".join("%s    %s,\n" % (pad, value) for value in values), pad)
 
 
-def table(name, text, comment, row=1):
-    """A constant of bytes; a text that is too wide goes over several lines, which end behind a space where it has any, and with a row."""
-    head, whole = "pub const %s: [u8; %d] =" % (name, len(text)), '*b"%s";' % text
-    if len(head) + 1 + len(whole) <= WIDEST:
-        return "// %s\n%s %s\n" % (comment, head, whole)
-    lines, left = [], text
-    while len(left) > WIDEST - 8:
-        cut = left.rfind(" ", 0, WIDEST - 8) + 1 or (WIDEST - 8) // row * row
-        lines.append(left[:cut])
-        left = left[cut:]
-    return "// %s\n%s\n    *b\"%s\";\n" % (comment, head, "\\\n    ".join(lines + [left]))
+def grouped(subject, arms, otherwise=None, pad="        "):
+    """The match of a body: {value: patterns}, with the patterns of an arm on one line, or one a line."""
+    lines, deep = [pad + "match %s {\n" % subject], pad + "    "
+    for value, patterns in arms.items():
+        first = "%s%s =>" % (deep, " | ".join(patterns))
+        if len(first + " %s," % value) <= WIDEST:
+            lines.append("%s %s,\n" % (first, value))
+        elif len(first) <= WIDEST:
+            lines.append("%s\n%s    %s,\n" % (first, deep, value))
+        else:
+            lines.append("%s%s => %s,\n" % (deep, ("\n%s| " % deep).join(patterns), value))
+    if otherwise:
+        lines.append("%s_ => %s,\n" % (deep, otherwise))
+    return "".join(lines) + pad + "}\n"
 
 
 def arm(pattern, value):
@@ -40,6 +49,11 @@ def arm(pattern, value):
     return "        %s => {\n%s        }\n" % (pattern, inner)
 
 
+def every(arms, subject="kind"):
+    """The match of a function's body whose arms are all there are."""
+    return "    match %s {\n%s    }\n" % (subject, "".join(arm(*pair) for pair in arms))
+
+
 def match(subject, arms, otherwise):
     """The match of a function's body."""
     return "    match %s {\n%s%s    }\n" % (subject, "".join(arm(*pair) for pair in arms), arm("_", otherwise))
@@ -55,7 +69,7 @@ def function(head, body, comment=""):
 
 
 def chosen(head, subject, arms, comment=""):
-    """A function that chooses by a number: the last of the arms takes what is left. With one arm alone there is nothing to choose."""
+    """A function that chooses: the last of the arms takes what is left. With one arm alone there is nothing to choose."""
     if len(arms) == 1:
         return function(head, "    %s\n" % arms[0][1], comment)
     return function(head, match(subject, arms[:-1], arms[-1][1]), comment)

@@ -90,8 +90,8 @@ def promised(export):
 def ruled(rule):
     """Operations on numbers that the rule of every_pair does not name."""
     for row in on_numbers():
-        if not re.search(r"\bnumbered::%s\b" % row.constant, rule):
-            yield row.exports[0].operation, "an independent rule: crates/every_pair/src/rule.rt does not name numbered::%s" % row.constant
+        if not re.search(r"\b%s\b" % row.variant, rule):
+            yield row.exports[0].operation, "an independent rule: crates/every_pair/src/rule.rt does not name %s" % row.variant
 
 
 def faults(rule=None):

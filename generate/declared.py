@@ -75,8 +75,10 @@ class Export:
 
     @property
     def gives(self):
-        written = self.operation.get("gives")
-        return self.kind.name if written == "own" else self.kind.other if written == "other" else self.filled(written)
+        """A type's name, or of `.. or none` the struct that C reads such an answer from."""
+        value, none, _ = self.operation.get("gives").partition(" or none")
+        named = self.kind.name if value == "own" else self.kind.other if value == "other" else self.filled(value)
+        return "answers::Answer" + named.capitalize() if none else named
 
     @property
     def answer(self):
@@ -88,7 +90,8 @@ class Export:
         if self.operation.get("body"):
             return self.filled(self.operation.get("body"))
         home = self.operation.get("home")
-        return self.filled("%s::NAME(%s)" % (self.homes().get(home, home), ", ".join(name for name, _ in self.parameters)))
+        call = self.filled("%s::NAME(%s)" % (self.homes().get(home, home), ", ".join(name for name, _ in self.parameters)))
+        return call if isinstance(self.answer, str) else call + ".into()"
 
     @property
     def contract(self):
@@ -208,6 +211,11 @@ class Struct:
     crate: str
     name: str
     fields: tuple  # pairs of a name and a type, of which the first is ok
+
+    @property
+    def own_name(self):
+        """Its name without its family's in front, which the crates of answers write there: Read of TextRead."""
+        return re.sub(r"^[A-Z][a-z]+(?=[A-Z])", "", self.name) if self.crate.endswith("answers") else self.name
 
     @property
     def value(self):

@@ -3,14 +3,15 @@ import functools
 
 from code import chosen, function
 from declared import Struct
-from numbering import BYTES, ORDER, asked, given, rows, said
-from table import Fault
+from numbering import BYTES, ORDER, SAID, asked, camel, given, rows, said
 
-LETTERS = "abcdefghijklmnopqrstuvwxyzABCDEFGHIJKLMNOPQRSTUVWXYZ0123456789"
 TAKEN_WORDS = {
     "own": "number", "other": "other", "u32": "u32", "usize": "place", "u8": "byte", "bool": "truth", "&[u8]": "bytes", "&mut [u8]": "bytes",
 }
-GIVEN_WORDS = {"own": "number", "other": "other", "bool": "test", "i8": "order"}
+GIVEN_WORDS = {
+    "own": "number", "other": "other", "bool": "test", "i8": "order",
+    "own or none": "checked", "i8 or none": "partial_ordering", "usize or none": "place", "bool or none": "verdict", "u8 or none": "byte",
+}
 NUMBERS = ["first", "second", "third", "fourth"]
 
 
@@ -33,10 +34,12 @@ def form(export):
 @functools.lru_cache(None)
 def forms():
     """All of them, in the order of the operations."""
-    found = list(dict.fromkeys(form(export) for row in rows() for export in row.exports))
-    if len(found) > len(LETTERS):
-        raise Fault("generate/forms.py: %d forms, and there are letters for %d" % (len(found), len(LETTERS)))
-    return found
+    return list(dict.fromkeys(form(export) for row in rows() for export in row.exports))
+
+
+def variant(name):
+    """A form in the enum of all."""
+    return "Form::" + camel(name)
 
 
 # ---- numbers as bits
@@ -49,7 +52,7 @@ UNSIGNED = {
 def from_bits(export, kind, bits):
     """The number of a kind that has these bits; a module calls the crates `own` and `other` that turn bits into numbers of either sign."""
     if kind.startswith("i"):
-        return "%s::wrapped(%s)" % ("own" if kind == export.kind.name else "other", UNSIGNED["u" + kind[1:]] % bits)
+        return "(%s).cast_signed()" % (UNSIGNED["u" + kind[1:]] % bits) if " " in UNSIGNED["u" + kind[1:]] else (UNSIGNED["u" + kind[1:]] % bits) + ".cast_signed()"
     return UNSIGNED[kind] % bits
 
 
@@ -57,7 +60,7 @@ def to_bits(export, kind, value):
     if kind == "bool":
         return "numbered::bit(%s)" % value
     if kind.startswith("i"):
-        return "%s::wrapped(%s) as u64" % ("own" if "u" + kind[1:] == export.kind.name else "other", value)
+        return "%s.cast_unsigned() as u64" % value if kind != "i64" else value + ".cast_unsigned()"
     return value if kind == "u64" else "%s as u64" % value
 
 
@@ -68,16 +71,16 @@ def converter(export):
     parts, answer = said(export), export.answer
     name = "as_" + given_word(export)
     if not isinstance(answer, Struct) and answer == "bool" and export.writes:
-        name, body = "as_done", "    numbered::parts(r, 0, 0, 0)\n"
+        name, body = "as_done", "    r.then_some([0; 4])\n"
     elif not isinstance(answer, Struct):
         body = "    numbered::order(r)\n" if parts[0][1] == ORDER else "    numbered::found(%s)\n" % to_bits(export, answer, "r")
     elif parts[0][1] == ORDER:
-        body = "    if r.ok {\n        numbered::order(r.value)\n    } else {\n        numbered::refused()\n    }\n"
+        body = "    if r.ok { numbered::order(r.value) } else { None }\n"
     else:
         fields = dict(answer.fields)
         bits = ["0" if letter == BYTES else part if part.isdigit() else to_bits(export, fields[part], "r." + part) for part, letter in parts]
-        body = "    numbered::parts(r.ok, %s)\n" % ", ".join((bits + ["0", "0", "0"])[:3])
-    return name, function("fn %s(r: %s) -> Answer" % (name, export.gives), body)
+        body = "    r.ok.then_some([%s])\n" % ", ".join((bits + ["0"] * SAID)[:SAID])
+    return name, function("fn %s(r: %s) -> Option<Parts>" % (name, export.gives), body)
 
 
 def values(export):
@@ -114,12 +117,12 @@ def module(found):
                 converters["%s_of_%s" % (converted, crate)] = text.replace("fn %s(" % converted, "fn %s_of_%s(" % (converted, crate))
                 converted = "%s_of_%s" % (converted, crate)
             call = "%s(%s::%s(%%s))" % (converted, each.face, each.symbol)
-            calls.setdefault(call, "numbered::" + row.constant)
+            calls.setdefault(call, row.variant)
         handed = ", ".join(value for value, _ in values(export))
         if len(calls) == 1:
             arms[name] = next(iter(calls)) % handed
             continue
-        head = "fn %s(operation: u8, %s) -> Answer" % (name, ", ".join("%s: %s" % pair for pair in export.parameters))
+        head = "fn %s(operation: Operation, %s) -> Option<Parts>" % (name, ", ".join("%s: %s" % pair for pair in export.parameters))
         own = ", ".join(parameter for parameter, _ in export.parameters)
         functions.append(chosen(head, "operation", [(constant, call % own) for call, constant in calls.items()]))
         arms[name] = "%s(operation, %s)" % (name, handed)

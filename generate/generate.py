@@ -1,14 +1,13 @@
 #!/usr/bin/env python3
-"""Writes what exists once per width, from templates: the crates unsigned8_sums .. signed_size_order, zeros, number_bytes16 .. number_bytes64 and
-decimal_read .. decimal_write, the faces and what is linked, what the programs have of each kind, the loops of the bench, and the bindings for C and Rust.
+"""Writes what exists once per width or comes from the table of operations: what the crate integers says of each type, the faces and what is linked, what the
+programs have of each kind, the loops of the bench, and the bindings for C and Rust.
 
     python3 generate/generate.py           write
     python3 generate/generate.py --check   only compare; exit status 1 where a file differs, is missing, or is one too many
     python3 generate/generate.py --list    print the paths that it writes
 
 A template is the code itself with some words in capitals (the table `words` in templates.py). NAME.VARIANT.rt.in stands in for NAME.rt.in at the widths of
-that variant. NAME.invariants.antt.in and NAME.answers.antt.in make the two files of a function's proof; where there is neither, Rattle finds it. A word in the
-name of a proof's template makes it the proof of several functions (the tables of integers.py and digits.py)."""
+that variant. NAME.invariants.antt.in and NAME.answers.antt.in make the two files of a function's proof; where there is neither, Rattle finds it."""
 import glob
 import os
 import sys
@@ -20,9 +19,7 @@ import bindings
 import complete
 import counts
 import crates_txt
-import decimals
 import declared
-import digits
 import edges
 import faces
 import help_text
@@ -36,7 +33,7 @@ import spelled
 import statics
 from templates import CRATES, read
 
-CODE = [integers, digits, decimals, bench]
+CODE = [integers, bench]
 FROM_THE_TABLE = [faces, statics, numbered, numbered_integers, numbered_bytes, spelled, help_text, edges, rust_integers, ask_lines, ask_page, counts, bindings]
 
 
@@ -71,7 +68,7 @@ def main():
     if check:
         missing += [] if missing else list(selftest.faults())
         print("".join(line + "\n" for line in missing) + "generated files: %d, %d wrong; operations: %d faults, %d damages tried" % (
-            len(made), len(changed) + len(strays), len(missing), len(selftest.DAMAGES) + 2,
+            len(made), len(changed) + len(strays), len(missing), len(selftest.DAMAGES) + 1,
         ))
         sys.exit(1 if changed or strays or missing else 0)
     for path in changed:

@@ -3,8 +3,8 @@ yet. And what each operation takes, as the crate `reasons` says it."""
 import os
 import re
 
-from code import function, table
-from numbering import asked, rows
+from code import function, grouped
+from numbering import asked, by_answer, rows
 from templates import CRATES, filled_file
 
 LINES = 20  # of one function
@@ -37,7 +37,7 @@ def lists(groups):
         for start in range(0, len(found), LINES):
             name = "list_%s%s" % (group.lower(), "" if not start else "_%d" % (start // LINES + 1))
             calls.append("%s(out)" % name)
-            texts.append(function(PRINTS % name, in_turn(['show::text(out, b"%s\\n")' % line for line in found[start:start + LINES]])))
+            texts.append(function(PRINTS % name, in_turn(['show::text(out, "%s\\n")' % line for line in found[start:start + LINES]])))
     return calls, texts
 
 
@@ -48,12 +48,12 @@ def files():
     text = filled_file("ask/help.rt.in", CALLS=calls, LISTS="\n".join(integers + others))
     yield os.path.join(CRATES, "ask", "src", "help.rt"), text
     yield os.path.join(os.path.dirname(CRATES), "docs", "ask_help.txt"), printed(text)
-    names = table("SHOWN", " ".join(",".join(shown(row.exports[0])) for row in rows()), "The arguments of each operation, in the order of their numbers.")
-    yield os.path.join(CRATES, "reasons", "src", "takes.rt"), filled_file("reasons/takes.rt.in", TABLE=names)
+    names = grouped("operation", by_answer(lambda row: '"%s"' % " ".join(shown(row.exports[0]))), pad="    ")
+    yield os.path.join(CRATES, "reasons", "src", "takes.rt"), filled_file("reasons/takes.rt.in", SHOWN=names)
 
 
 def printed(code):
     """What help.rt prints: the texts of its functions, in the order in which `print` calls them."""
     bodies = dict(re.findall(r"^(?:pub )?%s \{\n(.*?)^\}" % (re.escape(PRINTS) % r"(\w+)"), code, re.M | re.S))
-    texts = [text for name in re.findall(r"(\w+)\(out\)", bodies["print"]) for text in re.findall(r'b"((?:[^"\\]|\\.)*)"', bodies[name])]
+    texts = [text for name in re.findall(r"(\w+)\(out\)", bodies["print"]) for text in re.findall(r'"((?:[^"\\]|\\.)*)"', bodies[name])]
     return "".join(texts).replace("\\n", "\n")

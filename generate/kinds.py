@@ -2,7 +2,6 @@
 import functools
 from dataclasses import dataclass
 
-from digits import byte_words
 from templates import SIGNS, WIDTHS, Width, type_name, words
 
 
@@ -44,7 +43,8 @@ class Kind:
         """What the words in capitals stand for."""
         return {
             **words(self.width),
-            **byte_words(self.width, {}),
+            "BYTES": str(self.bits // 8),
+            "LAST": str(self.bits // 8 - 1),
             "TYPE": self.name,
             "SIGN": self.sign.capitalize(),
             "LETTER": self.name[0],

@@ -1,71 +1,76 @@
-"""The crate numbered: the tables of all operations."""
+"""The crate numbered: all operations, with what each takes and answers."""
 import os
 
-from code import constants, match, table
-from forms import LETTERS, form, forms
+from code import enum, grouped, listed
+from forms import form, forms
 from kinds import KINDS
-from numbering import GROUPS, SAID, SETS, TAKEN, given, on_numbers, rows
+from numbering import BYTES, GROUPS, NOTHING, ORDER, OTHER, OWN, SETS, TRUTH, by_answer, camel, given, on_numbers, rows
 from templates import CRATES, filled_file
 
-WHO_HAS = "Who has each: T the unsigned kinds, S the signed ones, B both, U those up to 64 bits, W those of several bytes; b bytes, t text."
-WHAT_IT_TAKES = "What each takes, a row of %d: x its kind, o that of the other sign, A and so on a kind by its number, t a truth, b bytes."
+SHAPES = {OWN: "Shape::Own", OTHER: "Shape::Other", TRUTH: "TRUTH", ORDER: "ORDER", BYTES: "BYTES"}
+# The sets of several groups, as the code calls them.
+SET_NAMES = {"B": "INTEGERS", "T": "UNSIGNED", "S": "SIGNED", "U": "COUNTED", "W": "OF_BYTES"}
+KIND = {kind.name: "Kind::" + camel(kind.name) for kind in KINDS}
 
 
-def condition(letter):
-    """Whether a kind is of a set of groups, which stand side by side."""
-    numbers = sorted(GROUPS.index(group) for group in SETS[letter])
-    assert numbers == list(range(numbers[0], numbers[-1] + 1)), letter
-    first, last = (GROUPS[place].upper() for place in (numbers[0], numbers[-1]))
-    if first == last:
-        return "kind == %s" % first
-    return "kind <= %s" % last if numbers[0] == 0 else "(%s <= kind) & (kind <= %s)" % (first, last)
+def group(name):
+    return "Group::Integers(%s)" % KIND[name] if name in KIND else "Group::" + camel(name)
 
 
-def tables():
-    letters = "".join(LETTERS[forms().index(form(row.exports[0]))] for row in rows())
-    return "\n".join([
-        table("GROUPS", " ".join(GROUPS), "The kinds and families."),
-        table("NAMES", " ".join(row.name for row in rows()), "The operations in the order of their numbers."),
-        table("OF", "".join(row.of for row in rows()), WHO_HAS),
-        table("TAKES", "".join(row.takes for row in rows()), WHAT_IT_TAKES % TAKEN, TAKEN),
-        table("SAYS", "".join(row.says for row in rows()), "What each answers, a row of %d in the same letters, and c for a comparison." % SAID, SAID),
-        table("FORMS", letters, "How each is run: a letter for those that take the same, and on numbers alone give the same."),
-        "// ---- the ways to run one\n",
-        constants("u8", {name.upper(): "b'%s'" % LETTERS[place] for place, name in enumerate(forms())}),
-    ])
-
-
-def kinds():
-    numbers = {name.upper(): place for place, name in enumerate(GROUPS)}
-    numbers["KINDS"] = len(KINDS)
-    numbers["FIRST_SIGNED"] = next(place for place, kind in enumerate(KINDS) if kind.sign == "signed")
-    return constants("u8", numbers)
-
-
-def operations():
-    numbers = {row.constant: place for place, row in enumerate(rows())}
-    numbers["OPERATIONS"] = len(on_numbers())
-    numbers["ALL"] = len(rows())
-    return constants("u8", numbers) + "\n" + constants("usize", {"TAKEN": TAKEN, "SAID": SAID})
+def shapes(letters):
+    """A slice of the shapes that letters stand for."""
+    found = [SHAPES.get(letter) or GROUPS[ord(letter) - ord("A")].upper() for letter in letters.rstrip(NOTHING)]
+    return "&[%s]" % ", ".join(found)
 
 
 def given_lengths():
     """A slice that is given has as many bytes as the kind."""
-    arms = []
+    found = []
     for row in rows():
         types = dict(row.exports[0].parameters)
         for name, value in given(row.exports[0]).items():
             if types[name].startswith("&"):
                 assert int(value) == row.exports[0].kind.bits // 8, row
-                arms.append((row.constant, "(width(kind) / 8) as usize"))
-    return match("operation", arms, "0")
+                found.append(row.variant)
+    return found
+
+
+def owners():
+    """Who has operations: a constant for each set of several groups."""
+    found = [(SET_NAMES[letter], [group(name) for name in GROUPS if name in SETS[letter]]) for letter in SETS if letter in SET_NAMES]
+    return "\n".join(listed("const %s: [Group; %d]" % (name, len(groups)), groups) for name, groups in found)
+
+
+def owner(row):
+    return "&" + (SET_NAMES.get(row.of) or "[%s]" % group(row.exports[0].group))
 
 
 def files():
-    widths = match("kind", [(" | ".join(kind.name.upper() for kind in KINDS if kind.bits == bits), str(bits)) for bits in (8, 16, 32)], "64")
-    lib = filled_file("numbered/lib.rt.in", KINDS=kinds(), OPERATIONS=operations(), TABLES=tables())
-    has = match("of(operation)", [("b'%s'" % letter, condition(letter)) for letter in SETS], "false")
-    for word, part in (("HAS}", has), ("GIVEN}", given_lengths()), ("WIDTHS}", widths)):
-        assert lib.count(word) == 1, word
-        lib = lib.replace(word, part + "}")
-    yield os.path.join(CRATES, "numbered", "src", "lib.rt"), lib
+    yield os.path.join(CRATES, "numbered", "src", "lib.rt"), filled_file(
+        "numbered/lib.rt.in",
+        KINDS=enum("Kind", map(camel, KIND)),
+        KINDLIST=listed("pub const ALL: [Kind; %d]" % len(KIND), KIND.values(), "    "),
+        SIGNED=grouped("self", {"true": [KIND[kind.name] for kind in KINDS if kind.sign == "signed"]}, "false"),
+        OTHERS=grouped("self", {KIND[kind.other]: [KIND[kind.name]] for kind in KINDS}),
+        WIDTHS=grouped("self", {str(bits): [KIND[kind.name] for kind in KINDS if kind.bits == bits] for bits in dict.fromkeys(kind.bits for kind in KINDS)}),
+        GROUPLIST=listed("pub const ALL: [Group; %d]" % len(GROUPS), map(group, GROUPS), "    "),
+        GROUPNAMES=grouped("self", {'"%s"' % name: [group(name)] for name in GROUPS}),
+        OWNERS=owners(),
+        SHAPES="\n".join("const %s: Shape = Shape::Always(Part::Number(%s));\n" % pair for pair in always()),
+        OPERATIONS=enum("Operation", [row.variant.partition("::")[2] for row in rows()]),
+        OPERATIONLIST=listed("pub const ALL: [Operation; %d]" % len(rows()), [row.variant for row in rows()], "    "),
+        ON_NUMBERS=listed("pub const ON_NUMBERS: [Operation; %d]" % len(on_numbers()), [row.variant for row in on_numbers()], "    "),
+        NAMES=grouped("self", by_answer(lambda row: '"%s"' % row.name)),
+        TAKES=grouped("self", by_answer(lambda row: shapes(row.takes))),
+        SAYS=grouped("self", by_answer(lambda row: shapes(row.says))),
+        OWNED=grouped("self", by_answer(owner)),
+        FORMOF=grouped("self", by_answer(lambda row: "Form::" + camel(form(row.exports[0])))),
+        GIVEN=grouped("operation", {"self.width() as usize / 8": given_lengths()}, "0"),
+        FORMS=enum("Form", map(camel, forms())),
+    )
+
+
+def always():
+    """The kinds that operations take or answer whatever their own kind is."""
+    letters = sorted({letter for row in rows() for letter in row.takes + row.says if letter.isupper()})
+    return [(GROUPS[ord(letter) - ord("A")].upper(), KIND[GROUPS[ord(letter) - ord("A")]]) for letter in letters]

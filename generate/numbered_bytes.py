@@ -1,14 +1,14 @@
-"""The crates numbered_bytes and numbered_digits: the operations on slices and text, and those of integers that take or answer bytes, by their numbers; a module
+"""The crates numbered_bytes and numbered_digits: the operations on slices and text, and those of integers that take or answer bytes; a module
 for each family and kind."""
 import os
 import re
 
-from code import function, match
-from forms import NUMBERS, module
+from code import every, function, match
+from forms import NUMBERS, module, variant
 from kinds import BY_NAME, KINDS
 from numbered_integers import wrappers
-from numbering import GROUPS, rows
-from templates import CRATES, SIGNS, filled_file
+from numbering import GROUPS, camel, rows
+from templates import CRATES, filled_file
 
 FAMILIES = ["bytes", "text"]
 
@@ -21,9 +21,9 @@ def says(name, texts):
 def chooser(head, arms, bits, otherwise):
     """A function that chooses by the form, with the numbers that its arms need."""
     needed = {name: code for name, code in bits.items() if says(name, arms.values())}
-    lets = ["    let %s = n.%s;\n" % (number, number) for number in NUMBERS if says(number, needed.values())]
+    lets = ["    let %s = n[%d];\n" % (number, place) for place, number in enumerate(NUMBERS) if says(number, needed.values())]
     lets += ["    let %s = %s;\n" % pair for pair in needed.items()]
-    return function(head, "".join(lets) + match("numbered::form(operation)", [("numbered::" + form.upper(), arm) for form, arm in arms.items()], otherwise))
+    return function(head, "".join(lets) + match("operation.form()", [(variant(form), arm) for form, arm in arms.items()], otherwise))
 
 
 def of_group(group):
@@ -32,16 +32,16 @@ def of_group(group):
     other, handed = ("other: &[u8], ", "other, ") if says("other", [re.sub(r"\bother::", "", arm) for arm in arms.values()]) else ("", "")
     writing, reading = ({form: arm for form, arm in arms.items() if form.startswith(which)} for which in ("writing_", "reading_"))
     texts = [
-        chooser("pub fn run(operation: u8, s: &mut [u8], %sn: Numbers) -> Answer" % other, writing, bits, "reading(operation, s, %sn)" % handed),
-        chooser("fn reading(operation: u8, s: &[u8], %sn: Numbers) -> Answer" % other, reading, bits, "numbered::refused()"),
+        chooser("pub fn run(operation: Operation, s: &mut [u8], %sn: Numbers) -> Option<Parts>" % other, writing, bits, "reading(operation, s, %sn)" % handed),
+        chooser("fn reading(operation: Operation, s: &[u8], %sn: Numbers) -> Option<Parts>" % other, reading, bits, "None"),
         *functions,
         *converters,
     ]
-    uses = "use numbered::{Answer, Numbers};\n"
+    uses = "use numbered::{Form, Numbers, Operation, Parts};\n"
     if group in BY_NAME:
         uses += "".join("use %s as %s;\n" % pair for pair in wrappers(BY_NAME[group]) if any(pair[1] + "::" in text for text in texts))
     about = {"bytes": "slices of bytes", "text": "text"}.get(group, group + " that take or answer bytes")
-    return "\n".join(["// The operations of %s by their numbers, as the faces export them.\n%s" % (about, uses), *texts])
+    return "\n".join(["// The operations of %s, as the faces export them.\n%s" % (about, uses), *texts])
 
 
 def source(crate, file):
@@ -56,10 +56,7 @@ def files():
     kinds = [kind.name for kind in KINDS]
     assert sorted(kinds + FAMILIES) == sorted(GROUPS)
     yield source("numbered_bytes", "lib.rt"), filled_file("numbered_bytes/lib.rt.in", MODULES=modules(FAMILIES))
-    halves = []
-    for sign in SIGNS:
-        arms = [("numbered::" + kind.name.upper(), "of_%s::run(operation, s, n)" % kind.name) for kind in KINDS if kind.sign == sign]
-        halves.append(function("fn %s(kind: u8, operation: u8, s: &mut [u8], n: Numbers) -> Answer" % sign, match("kind", arms, "numbered::refused()")))
-    yield source("numbered_digits", "lib.rt"), filled_file("numbered_digits/lib.rt.in", MODULES=modules(kinds), SIGNS="\n".join(halves))
+    arms = [("Kind::" + camel(kind), "of_%s::run(operation, s, n)" % kind) for kind in kinds]
+    yield source("numbered_digits", "lib.rt"), filled_file("numbered_digits/lib.rt.in", MODULES=modules(kinds), KINDS=every(arms))
     for group in GROUPS:
         yield source("numbered_bytes" if group in FAMILIES else "numbered_digits", "of_%s.rt" % group), of_group(group)

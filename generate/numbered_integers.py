@@ -1,15 +1,15 @@
-"""The crates numbered_u8 .. numbered_isize and numbered_integers: the operations of each kind on numbers alone by their numbers, and those of all kinds
+"""The crates numbered_u8 .. numbered_isize and numbered_integers: the operations of each kind on numbers alone, and those of all kinds
 together."""
 import os
 
-from code import function, match
-from forms import NUMBERS, form, forms, module
+from code import every, function, match
+from forms import NUMBERS, form, forms, module, variant
 from kinds import KINDS
-from numbering import on_numbers
-from templates import CRATES, SIGNS, filled_file
+from numbering import camel, on_numbers
+from templates import CRATES, filled_file
 
 ABOUT = (
-    "// The operations of %s on numbers alone by their numbers (crate `numbered`), as the faces export them (written by generate/ from the table of operations).\n"
+    "// The operations of %s on numbers alone (crate `numbered`), as the faces export them (written by generate/ from the table of operations).\n"
 )
 
 
@@ -39,32 +39,25 @@ def of_kind(kind):
     types, common = most_common(found)
     names = ["%s_%s" % pair if pair[1] != "usize" else pair[0] for pair in zip("abcd", types)]
     inner = function(
-        "fn of_common(operation: u8, %s) -> Answer" % ", ".join("%s: %s" % pair for pair in zip(names, types)),
-        match("numbered::form(operation)", [("numbered::" + name.upper(), arms[name]) for name in forms() if name in common], "numbered::refused()"),
+        "fn of_common(operation: Operation, %s) -> Option<Parts>" % ", ".join("%s: %s" % pair for pair in zip(names, types)),
+        match("operation.form()", [(variant(name), arms[name]) for name in forms() if name in common], "None"),
         "Those that take what most of them take.",
     )
     others = {name: arm for name, arm in arms.items() if name not in common}
-    lets = "".join("    let %s = %s;\n" % (name, code) for name, code in bits.items())
+    lets = "".join("    let %s = n[%d];\n" % (name, place) for place, name in enumerate(handed()))
+    lets += "".join("    let %s = %s;\n" % (name, code) for name, code in bits.items())
     run = function(
-        "fn handed(operation: u8, %s) -> Answer" % ", ".join("%s: u64" % name for name in handed()),
-        lets + match(
-            "numbered::form(operation)", [("numbered::" + name.upper(), arm) for name, arm in others.items()], "of_common(operation, %s)" % ", ".join(names),
-        ),
-    )
-    numbers = ", ".join("n." + name for name in handed())
-    outer = function(
-        "pub fn run(operation: u8, n: Numbers) -> Answer", "    handed(operation, %s)\n" % numbers, "Arguments are cut down to their kind's width.",
+        "pub fn run(operation: Operation, n: Numbers) -> Option<Parts>",
+        lets + match("operation.form()", [(variant(name), arm) for name, arm in others.items()], "of_common(operation, %s)" % ", ".join(names)),
+        "Arguments are cut down to their kind's width.",
     )
     called = [pair for pair in wrappers(kind) if any(pair[1] + "::" in text for text in [run, *converters])]
-    uses = "#![tactic(auto)]\n\nuse numbered::{Answer, Numbers};\n" + "".join("use %s as %s;\n" % pair for pair in called)
-    return "\n".join([ABOUT % kind.name + uses, outer, run, inner, *functions, *converters])
+    uses = "#![tactic(auto)]\n\nuse numbered::{Form, Numbers, Operation, Parts};\n" + "".join("use %s as %s;\n" % pair for pair in called)
+    return "\n".join([ABOUT % kind.name + uses, run, inner, *functions, *converters])
 
 
 def files():
-    runs = []
     for kind in KINDS:
         yield os.path.join(CRATES, "numbered_" + kind.name, "src", "lib.rt"), of_kind(kind)
-    for sign in SIGNS:
-        arms = [("numbered::" + kind.name.upper(), "numbered_%s::run(operation, n)" % kind.name) for kind in KINDS if kind.sign == sign]
-        runs.append(function("fn %s(kind: u8, operation: u8, n: Numbers) -> Answer" % sign, match("kind", arms, "numbered::refused()")))
-    yield os.path.join(CRATES, "numbered_integers", "src", "lib.rt"), filled_file("numbered_integers/lib.rt.in", SIGNS="\n".join(runs))
+    arms = [("Kind::" + camel(kind.name), "numbered_%s::run(operation, n)" % kind.name) for kind in KINDS]
+    yield os.path.join(CRATES, "numbered_integers", "src", "lib.rt"), filled_file("numbered_integers/lib.rt.in", KINDS=every(arms))

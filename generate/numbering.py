@@ -1,5 +1,4 @@
-"""Every operation under a number, as programs have it: those of integers on numbers alone first, then the others; with what each takes and answers, letter by
-letter.
+"""Every operation as programs have it: those of integers on numbers alone first, then the others; with what each takes and answers, letter by letter.
 
 A letter is x for the kind that the operation is of, o for the kind of the other sign, t for true or false, c for a comparison, b for bytes, . for nothing, and
 a capital for a kind of its own."""
@@ -9,7 +8,6 @@ from dataclasses import dataclass
 
 from declared import SLICE, Struct, exports
 from kinds import KINDS, LETTERS
-from table import Fault
 
 GROUPS = [kind.name for kind in KINDS] + ["bytes", "text"]
 TAKEN, SAID, NUMBERS = 5, 4, 4  # at most so many arguments, parts of an answer, and numbers among the arguments
@@ -22,7 +20,7 @@ SETS = {
 
 @dataclass(frozen=True)
 class Row:
-    """A number's operation: the exports of one name that take and answer the same."""
+    """An operation: the exports of one name that take and answer the same."""
 
     name: str
     takes: str
@@ -47,9 +45,18 @@ class Row:
         return ("SIGNED_" if self.of == "S" and shared(self.name) else "") + self.name.upper()
 
     @property
+    def variant(self):
+        """The constant as a variant of an enum."""
+        return "Operation::" + camel(self.constant)
+
+    @property
     def on_numbers(self):
         """Whether it is an operation of integers on numbers alone."""
         return BYTES not in self.takes + self.says and self.of not in "bt"
+
+
+def camel(name):
+    return "".join(word.capitalize() for word in name.split("_"))
 
 
 def letter(kind):
@@ -60,9 +67,9 @@ def letter(kind):
 
 
 def letter_of_field(export, kind):
-    """Of a field of the struct that is given: of the operation's own kind where the struct is one of the kind's crate."""
+    """Of a field of the struct that is given: of the operation's own kind where that is what it gives."""
     gives = export.operation.get("gives")
-    own = {export.kind.name: OWN, export.kind.other: OTHER} if export.kind and export.filled(gives) != gives else {}
+    own = {export.kind.name: OWN, export.kind.other: OTHER} if export.kind and gives == "own or none" else {}
     return own.get(kind) or letter(kind)
 
 
@@ -125,9 +132,15 @@ def rows():
         for name in [export.name] + (export.operation.get("also asked") or "").split():
             found.setdefault((name, takes, says, export.group if not export.kind else ""), []).append(export)
     made = [Row(name, takes, says, tuple(listed)) for (name, takes, says, _), listed in found.items()]
-    if len(made) > 254:
-        raise Fault("generate/numbering.py: %d operations, and programs have numbers for 254" % len(made))
     return [row for row in made if row.on_numbers] + [row for row in made if not row.on_numbers]
+
+
+def by_answer(value):
+    """The operations by what a function of them answers: {answer: variants}."""
+    found = {}
+    for row in rows():
+        found.setdefault(value(row), []).append(row.variant)
+    return found
 
 
 def check_shape(export, takes, says):

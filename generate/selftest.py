@@ -5,11 +5,9 @@ import counts
 import declared
 import faces
 import forms
-import integers
 import numbering
 import table
 from bindings import rust_functions, verus
-from templates import WIDTHS
 
 DAMAGES = [
     # file, what stands there, what is put in its place, what the error must say
@@ -25,8 +23,8 @@ DAMAGES = [
     ("integers.txt", "name: wrapping_mul\n", "name: wrapping_mul\nname: wrapping_product\n", "the field name stands twice"),
     ("integers.txt", "name: wrapping_mul\n", "names: wrapping_mul\n", "an operation without a name"),
     (
-        "integers.txt", "gives: sums::Checked\nhome: sums\ncontract: Answers result.ok [result.value] (checked_mul",
-        "gives: sums::Check\nhome: sums\ncontract: Answers result.ok result.value (checked_mul",
+        "integers.txt", "gives: own or none\nhome: sums\ncontract: Answers result.ok [result.value] (checked_mul",
+        "gives: u7 or none\nhome: sums\ncontract: Answers result.ok result.value (checked_mul",
         "checked_mul: it gives",
     ),
     (
@@ -83,15 +81,6 @@ def said(texts):
         clear()
 
 
-def said_of_template(name):
-    """What the generator says of a proof's template of this name."""
-    try:
-        list(integers.functions(name, WIDTHS[0]))
-        return ""
-    except SystemExit as fault:
-        return str(fault)
-
-
 def faults():
     texts = table.stored()
     for file, old, new, expected in DAMAGES:
@@ -101,7 +90,5 @@ def faults():
         found = said({**texts, file: texts[file].replace(old, new, 1)})
         if expected not in found:
             yield "generate/selftest.py: damage goes unnoticed: %r for %r, of which is said: %s" % (new, old, found[:300] or "nothing")
-    if "clone: it lacks an independent rule" not in "\n".join(complete.faults(complete.read(complete.RULE).replace("numbered::CLONE", "numbered::COPY"))):
+    if "clone: it lacks an independent rule" not in "\n".join(complete.faults(complete.read(complete.RULE).replace("Operation::Clone", "Operation::Copy"))):
         yield "generate/selftest.py: an operation without a rule in every_pair goes unnoticed"
-    if said_of_template("checked_SUM") or "no table has the word TOTAL" not in said_of_template("checked_TOTAL"):
-        yield "generate/selftest.py: a word in a template's name that no table has goes unnoticed"

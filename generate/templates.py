@@ -60,10 +60,11 @@ def words(width):
         "INT": "i" + width.suffix,
         "WIDTH": str(width.bits),
         "SIZE": str(2**width.bits),
+        "GREATEST": str(2**width.bits - 1),
         "HALF": str(2 ** (width.bits - 1)),
+        "TOP": str(2 ** (width.bits - 1) - 1),
+        "WIDER": "u64" if width.has_wider else "u128",
         "MACHINE": "w%d" % width.bits,
-        "UNSIGNED": "unsigned" + width.crate,
-        "SIGNED": "signed" + width.crate,
     }
 
 

@@ -25,7 +25,7 @@ def c_type(name):
 def struct_name(group, struct):
     if struct.value:
         return "pb_answer_" + struct.value
-    return "pb_%s_%s" % (group, re.sub(r"(?<!^)(?=[A-Z])", "_", struct.name).lower())
+    return "pb_" + re.sub(r"(?<!^)(?=[A-Z])", "_", struct.name).lower()
 
 
 def answer_type(export):

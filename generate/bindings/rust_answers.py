@@ -87,12 +87,12 @@ def taken_up(function):
         return Answer(function.own(answer.value), around, number(export))
     if function.says("places"):
         return of_places(function, around)
-    return Answer(answer.name, around, lambda values: struct_literal(function, values))
+    return Answer(answer.own_name, around, lambda values: struct_literal(function, values))
 
 
 def struct_literal(function, values):
     fields = [(name, literal(value, kind, function.export)) for (name, kind), value in zip(function.export.answer.fields[1:], values, strict=True)]
-    return "%s::%s { %s }" % (function.module, function.export.answer.name, ", ".join("%s: %s" % field for field in fields))
+    return "%s::%s { %s }" % (function.module, function.export.answer.own_name, ", ".join("%s: %s" % field for field in fields))
 
 
 def places(function):

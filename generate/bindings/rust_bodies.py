@@ -76,7 +76,7 @@ def taken(function):
     if answer.value:
         return "answer.value" + (" as " + function.kind.name if function.own(answer.value) != answer.value else "")
     if not function.says("places"):
-        return "%s { %s }" % (answer.name, ", ".join("%s: answer.%s" % (name, name) for name, _ in answer.fields[1:]))
+        return "%s { %s }" % (answer.own_name, ", ".join("%s: answer.%s" % (name, name) for name, _ in answer.fields[1:]))
     items = [parted(function, item) for item in places(function)]
     return "(%s)" % ", ".join(items) if len(items) > 1 else items[0]
 

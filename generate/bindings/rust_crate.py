@@ -41,10 +41,10 @@ def structs(group, found):
     made = {}
     for function in found:
         answer = function.export.answer
-        if is_struct(answer) and function.answer.inner == answer.name:
+        if is_struct(answer) and function.answer.inner == answer.own_name:
             fields = "".join("    pub %s: %s,\n" % field for field in answer.fields[1:])
             text = "/// %s\n#[derive(Clone, Copy, Debug, PartialEq, Eq)]\npub struct %s {\n%s}\n"
-            made[answer.name] = text % (about_struct(group, answer), answer.name, fields)
+            made[answer.own_name] = text % (about_struct(group, answer), answer.own_name, fields)
     return list(made.values())
 
 

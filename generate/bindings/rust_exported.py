@@ -9,7 +9,7 @@ IN_REGISTERS = 16
 
 
 def struct_name(group, struct):
-    return "Answer<%s>" % struct.value if struct.value else group.capitalize() + struct.name
+    return "Answer<%s>" % struct.value if struct.value else struct.name
 
 
 def declared_answer(export):

@@ -74,7 +74,7 @@ class Spec:
             return "()"
         if self.begins:
             return "%s.len() as usize" % self.begins
-        if function.says("places") or function.answer.inner == getattr(function.export.answer, "name", None) or self.is_array:
+        if function.says("places") or function.answer.inner == getattr(function.export.answer, "own_name", None) or self.is_array:
             return None
         return "%s_of(%s)" % (function.kind.name, value) if function.casts else value
 

@@ -18,7 +18,7 @@ def about(group, field="about"):
 
 
 def about_struct(group, struct):
-    text = family_of(group).record.get("struct " + struct.name)
+    text = family_of(group).record.get("struct " + struct.own_name)
     if not text:
-        raise Fault("the struct %s that pb_%s_* answer has no sentence (`struct %s` in generate/operations)" % (struct.name, group, struct.name))
+        raise Fault("the struct %s that pb_%s_* answer has no sentence (`struct %s` in generate/operations)" % (struct.own_name, group, struct.own_name))
     return text

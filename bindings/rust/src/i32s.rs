@@ -16,7 +16,7 @@ use core::ops::Range;
 ///
 /// Cited by rows A20; clause vstd_integers/Signed.wrapping_add; contract promisebook_i32::pb_i32_wrapping_add;
 /// law vstd_integers/Signed.wrapping_add_kept; pinned by vstd_integers/Pinned.pinned_equation; refused
-/// signed8_sums/wrapping_add.complement, twice.
+/// signed_sums/wrapping_add.complement, twice.
 #[inline]
 #[must_use]
 pub fn wrapping_add(x: i32, y: i32) -> i32 {
@@ -33,7 +33,7 @@ pub fn wrapping_add(x: i32, y: i32) -> i32 {
 ///
 /// Cited by rows A21; clause vstd_integers/Signed.wrapping_add_unsigned; contract
 /// promisebook_i32::pb_i32_wrapping_add_unsigned; law vstd_integers/Signed.wrapping_add_unsigned_kept; pinned by
-/// vstd_integers/Pinned.pinned_equation; refused signed8_sums/wrapping_add_unsigned.complement, subtracts.
+/// vstd_integers/Pinned.pinned_equation; refused signed_sums/wrapping_add_unsigned.complement, subtracts.
 #[inline]
 #[must_use]
 pub fn wrapping_add_unsigned(x: i32, y: u32) -> i32 {
@@ -50,7 +50,7 @@ pub fn wrapping_add_unsigned(x: i32, y: u32) -> i32 {
 ///
 /// Cited by rows A22; clause vstd_integers/Signed.wrapping_sub; contract promisebook_i32::pb_i32_wrapping_sub;
 /// law vstd_integers/Signed.wrapping_sub_kept; pinned by vstd_integers/Pinned.pinned_equation; refused
-/// signed8_sums/wrapping_sub.nothing_left, other_way_round, vstd_integers/wrapping_sub.passes_the_top.
+/// signed_sums/wrapping_sub.nothing_left, other_way_round, vstd_integers/wrapping_sub.passes_the_top.
 #[inline]
 #[must_use]
 pub fn wrapping_sub(x: i32, y: i32) -> i32 {
@@ -67,7 +67,7 @@ pub fn wrapping_sub(x: i32, y: i32) -> i32 {
 ///
 /// Cited by rows A23; clause vstd_integers/Signed.wrapping_mul; contract promisebook_i32::pb_i32_wrapping_mul;
 /// law vstd_integers/Signed.wrapping_mul_kept; pinned by vstd_integers/Pinned.pinned_equation; refused
-/// signed8_sums/wrapping_mul.complement, square.
+/// signed_sums/wrapping_mul.complement, square.
 #[inline]
 #[must_use]
 pub fn wrapping_mul(x: i32, y: i32) -> i32 {
@@ -84,7 +84,7 @@ pub fn wrapping_mul(x: i32, y: i32) -> i32 {
 ///
 /// Cited by rows A24; clause vstd_integers/Signed.wrapping_shl; contract promisebook_i32::pb_i32_wrapping_shl;
 /// law vstd_integers/Signed.wrapping_shl_kept; pinned by vstd_integers/Pinned.pinned_equation; refused
-/// signed8_bits/wrapping_shl.by_the_width_is_0, modulo_7.
+/// signed_bits/wrapping_shl.by_the_width_is_0, modulo_7.
 #[inline]
 #[must_use]
 pub fn wrapping_shl(x: i32, rhs: u32) -> i32 {
@@ -102,7 +102,7 @@ pub fn wrapping_shl(x: i32, rhs: u32) -> i32 {
 ///
 /// Cited by rows A25; clause vstd_integers/Signed.wrapping_shr; contract promisebook_i32::pb_i32_wrapping_shr;
 /// law vstd_integers/Signed.wrapping_shr_kept; pinned by vstd_integers/Pinned.pinned_equation; refused
-/// signed8_bits/wrapping_shr.modulo_7, towards_zero.
+/// signed_bits/wrapping_shr.modulo_7, towards_zero.
 #[inline]
 #[must_use]
 pub fn wrapping_shr(x: i32, rhs: u32) -> i32 {
@@ -119,7 +119,7 @@ pub fn wrapping_shr(x: i32, rhs: u32) -> i32 {
 ///
 /// Cited by rows A26; clause vstd_integers/Signed.checked_add; contract promisebook_i32::pb_i32_checked_add; law
 /// vstd_integers/Signed.checked_add_kept; pinned by vstd_integers/Pinned.pinned_option; refused
-/// signed8_sums/checked_add.first_summand, largest_refused, signed64_sums/checked_add.other_signs_refused.
+/// signed_sums/checked_add.first_summand, largest_refused, other_signs_refused.
 #[inline]
 #[must_use]
 pub fn checked_add(x: i32, y: i32) -> Option<i32> {
@@ -137,7 +137,7 @@ pub fn checked_add(x: i32, y: i32) -> Option<i32> {
 ///
 /// Cited by rows A27; clause vstd_integers/Signed.checked_add_unsigned; contract
 /// promisebook_i32::pb_i32_checked_add_unsigned; law vstd_integers/Signed.checked_add_unsigned_kept; pinned by
-/// vstd_integers/Pinned.pinned_option; refused signed8_sums/checked_add_unsigned.first_summand, rise_refused.
+/// vstd_integers/Pinned.pinned_option; refused signed_sums/checked_add_unsigned.first_summand, rise_refused.
 #[inline]
 #[must_use]
 pub fn checked_add_unsigned(x: i32, y: u32) -> Option<i32> {
@@ -155,7 +155,7 @@ pub fn checked_add_unsigned(x: i32, y: u32) -> Option<i32> {
 ///
 /// Cited by rows A28; clause vstd_integers/Signed.checked_sub; contract promisebook_i32::pb_i32_checked_sub; law
 /// vstd_integers/Signed.checked_sub_kept; pinned by vstd_integers/Pinned.pinned_option; refused
-/// signed8_sums/checked_sub.least_refused, other_way_round, signed64_sums/checked_sub.other_signs_refused.
+/// signed_sums/checked_sub.least_refused, other_way_round, other_signs_refused.
 #[inline]
 #[must_use]
 pub fn checked_sub(x: i32, y: i32) -> Option<i32> {
@@ -173,7 +173,7 @@ pub fn checked_sub(x: i32, y: i32) -> Option<i32> {
 ///
 /// Cited by rows A29; clause vstd_integers/Signed.checked_sub_unsigned; contract
 /// promisebook_i32::pb_i32_checked_sub_unsigned; law vstd_integers/Signed.checked_sub_unsigned_kept; pinned by
-/// vstd_integers/Pinned.pinned_option; refused signed8_sums/checked_sub_unsigned.fall_refused, first_number.
+/// vstd_integers/Pinned.pinned_option; refused signed_sums/checked_sub_unsigned.fall_refused, first_number.
 #[inline]
 #[must_use]
 pub fn checked_sub_unsigned(x: i32, y: u32) -> Option<i32> {
@@ -191,7 +191,7 @@ pub fn checked_sub_unsigned(x: i32, y: u32) -> Option<i32> {
 ///
 /// Cited by rows A30; clause vstd_integers/Signed.checked_mul; contract promisebook_i32::pb_i32_checked_mul; law
 /// vstd_integers/Signed.checked_mul_kept; pinned by vstd_integers/Pinned.pinned_option; refused
-/// signed8_sums/checked_mul.larger_quotient_taken, square.
+/// signed_sums/checked_mul.larger_quotient_taken, square.
 #[inline]
 #[must_use]
 pub fn checked_mul(x: i32, y: i32) -> Option<i32> {
@@ -214,7 +214,7 @@ pub fn checked_mul(x: i32, y: i32) -> Option<i32> {
 ///
 /// Cited by rows A31; clause vstd_integers/Signed.checked_div; contract promisebook_i32::pb_i32_checked_div; law
 /// vstd_integers/Signed.checked_div_kept; pinned by vstd_integers/Pinned.pinned_option; refused
-/// signed8_division/checked_div.least_by_minus_one_wraps, other_dividend, vstd_integers/checked_div.euclidean,
+/// signed_division/checked_div.least_by_minus_one_wraps, other_dividend, vstd_integers/checked_div.euclidean,
 /// vstd_integers/divided_unless.least_by_minus_one_not_refused.
 #[inline]
 #[must_use]
@@ -238,7 +238,7 @@ pub fn checked_div(x: i32, y: i32) -> Option<i32> {
 ///
 /// Cited by rows A32; clause vstd_integers/Signed.checked_div_euclid; contract
 /// promisebook_i32::pb_i32_checked_div_euclid; law vstd_integers/Signed.checked_div_euclid_kept; pinned by
-/// vstd_integers/Pinned.pinned_option; refused signed8_division/checked_div_euclid.not_mended, towards_zero,
+/// vstd_integers/Pinned.pinned_option; refused signed_division/checked_div_euclid.not_mended, towards_zero,
 /// promisebook_i8/checked_div_euclid.towards_zero.
 #[inline]
 #[must_use]
@@ -262,7 +262,7 @@ pub fn checked_div_euclid(x: i32, y: i32) -> Option<i32> {
 ///
 /// Cited by rows A33; clause vstd_integers/Signed.checked_rem; contract promisebook_i32::pb_i32_checked_rem; law
 /// vstd_integers/Signed.checked_rem_kept; pinned by vstd_integers/Pinned.pinned_option; refused
-/// signed8_division/checked_rem.euclidean, least_by_minus_one_is_0, promisebook_i8/checked_rem.euclidean.
+/// signed_division/checked_rem.euclidean, least_by_minus_one_is_0, promisebook_i8/checked_rem.euclidean.
 #[inline]
 #[must_use]
 pub fn checked_rem(x: i32, y: i32) -> Option<i32> {
@@ -285,7 +285,7 @@ pub fn checked_rem(x: i32, y: i32) -> Option<i32> {
 ///
 /// Cited by rows A34; clause vstd_integers/Signed.checked_rem_euclid; contract
 /// promisebook_i32::pb_i32_checked_rem_euclid; law vstd_integers/Signed.checked_rem_euclid_kept; pinned by
-/// vstd_integers/Pinned.pinned_option; refused signed8_division/checked_rem_euclid.absolute_value, not_mended.
+/// vstd_integers/Pinned.pinned_option; refused signed_division/checked_rem_euclid.absolute_value, not_mended.
 #[inline]
 #[must_use]
 pub fn checked_rem_euclid(x: i32, y: i32) -> Option<i32> {
@@ -430,8 +430,8 @@ pub fn ge(x: i32, y: i32) -> bool {
 ///
 /// Cited by rows A38; clause vstd_integers/Compare.cmp; contract promisebook_i32::pb_i32_cmp; law
 /// vstd_integers/Compare.cmp_kept; pinned by vstd_integers/Pinned.pinned_equation; refused
-/// ordering/number.greater_is_0, less_is_1, unsigned8_order/compare.equal_is_greater, less_is_greater,
-/// signed8_order/compare.equal_is_greater, less_is_greater.
+/// ordering/number.greater_is_0, less_is_1, unsigned_order/compare.equal_is_greater, less_is_greater,
+/// signed_order/compare.equal_is_greater, less_is_greater.
 #[inline]
 #[must_use]
 pub fn cmp(x: i32, y: i32) -> Ordering {
@@ -586,8 +586,8 @@ pub fn write_decimal_in(s: &mut [u8], part: Range<usize>, x: i32) -> Option<usiz
 ///
 /// Cited by rows C1, C2; clause vstd_number_bytes/Bytes.from_le_bytes, spec_from_le_bytes; contract
 /// promisebook_number_bytes::pb_u32_from_le_bytes; law vstd_number_bytes/Bytes.from_le_bytes_kept; pinned by
-/// vstd_integers/Pinned.pinned_unsigned_option; refused number_bytes16/from_le_bytes.two_bytes_for_three,
-/// vstd_number_bytes/from_le_bytes.any_length, one_byte_fewer, number_bytes16/from_le_bytes.highest_first,
+/// vstd_integers/Pinned.pinned_unsigned_option; refused number_bytes/from_le_bytes.two_bytes_for_three,
+/// vstd_number_bytes/from_le_bytes.any_length, one_byte_fewer, number_bytes/from_le_bytes.highest_first,
 /// vstd_number_bytes/from_le_bytes.first_byte_last.
 #[inline]
 #[must_use]
@@ -609,8 +609,8 @@ pub fn from_le_bytes(s: &[u8]) -> Option<i32> {
 ///
 /// Cited by rows C1, C2; clause vstd_number_bytes/Bytes.from_le_bytes, spec_from_le_bytes; contract
 /// promisebook_number_bytes::pb_u32_from_le_bytes; law vstd_number_bytes/Bytes.from_le_bytes_kept; pinned by
-/// vstd_integers/Pinned.pinned_unsigned_option; refused number_bytes16/from_le_bytes.two_bytes_for_three,
-/// vstd_number_bytes/from_le_bytes.any_length, one_byte_fewer, number_bytes16/from_le_bytes.highest_first,
+/// vstd_integers/Pinned.pinned_unsigned_option; refused number_bytes/from_le_bytes.two_bytes_for_three,
+/// vstd_number_bytes/from_le_bytes.any_length, one_byte_fewer, number_bytes/from_le_bytes.highest_first,
 /// vstd_number_bytes/from_le_bytes.first_byte_last.
 #[inline]
 #[must_use]
@@ -628,8 +628,8 @@ pub fn from_le_bytes_in(s: &[u8], part: Range<usize>) -> Option<i32> {
 ///
 /// Cited by rows C3; clause vstd_number_bytes/Bytes.spec_to_le_bytes; contract
 /// promisebook_number_bytes::pb_u32_to_le_bytes; law vstd_number_bytes/Bytes.to_le_bytes_is; pinned by
-/// theory_lists/Written.pinned_writes; refused number_bytes16/to_le_bytes.highest_first, lowest_twice,
-/// number_bytes16/write_le_bytes.elsewhere, one_place_too_far, byte_behind_changes,
+/// theory_lists/Written.pinned_writes; refused number_bytes/to_le_bytes.highest_first, lowest_twice,
+/// number_bytes/write_le_bytes.elsewhere, one_place_too_far, byte_behind_changes,
 /// vstd_number_bytes/to_le_bytes.lowest_byte_only, seven_bits, promisebook_number_bytes/to_le_bytes.four_bytes.
 #[inline]
 #[must_use]
@@ -660,8 +660,8 @@ pub fn to_le_bytes(x: i32) -> [u8; 4] {
 ///
 /// Cited by rows C3; clause vstd_number_bytes/Bytes.spec_to_le_bytes; contract
 /// promisebook_number_bytes::pb_u32_to_le_bytes; law vstd_number_bytes/Bytes.to_le_bytes_is; pinned by
-/// theory_lists/Written.pinned_writes; refused number_bytes16/to_le_bytes.highest_first, lowest_twice,
-/// number_bytes16/write_le_bytes.elsewhere, one_place_too_far, byte_behind_changes,
+/// theory_lists/Written.pinned_writes; refused number_bytes/to_le_bytes.highest_first, lowest_twice,
+/// number_bytes/write_le_bytes.elsewhere, one_place_too_far, byte_behind_changes,
 /// vstd_number_bytes/to_le_bytes.lowest_byte_only, seven_bits, promisebook_number_bytes/to_le_bytes.four_bytes.
 #[inline]
 #[must_use]
@@ -681,7 +681,7 @@ pub fn to_le_bytes_in(s: &mut [u8], part: Range<usize>, x: i32) -> Option<()> {
 ///
 /// Cited by rows C67; clause theory_digits/Number.number_high; contract
 /// promisebook_number_bytes::pb_u32_from_be_bytes; law theory_digits/Reading.number_high_of_digits_high; pinned
-/// by vstd_integers/Pinned.pinned_unsigned_option; refused number_bytes16/from_be_bytes.lowest_first,
+/// by vstd_integers/Pinned.pinned_unsigned_option; refused number_bytes/from_be_bytes.lowest_first,
 /// two_bytes_for_one.
 #[inline]
 #[must_use]
@@ -703,7 +703,7 @@ pub fn from_be_bytes(s: &[u8]) -> Option<i32> {
 ///
 /// Cited by rows C67; clause theory_digits/Number.number_high; contract
 /// promisebook_number_bytes::pb_u32_from_be_bytes; law theory_digits/Reading.number_high_of_digits_high; pinned
-/// by vstd_integers/Pinned.pinned_unsigned_option; refused number_bytes16/from_be_bytes.lowest_first,
+/// by vstd_integers/Pinned.pinned_unsigned_option; refused number_bytes/from_be_bytes.lowest_first,
 /// two_bytes_for_one.
 #[inline]
 #[must_use]
@@ -721,8 +721,8 @@ pub fn from_be_bytes_in(s: &[u8], part: Range<usize>) -> Option<i32> {
 ///
 /// Cited by rows C68; clause theory_digits/Digits.digits_high; contract
 /// promisebook_number_bytes::pb_u32_to_be_bytes; law theory_digits/Reading.digits_high_of_number_high; pinned by
-/// theory_lists/Written.pinned_writes; refused number_bytes16/to_be_bytes.highest_twice, lowest_first,
-/// number_bytes16/write_be_bytes.complement, last_place_is_refused, byte_changes_twice,
+/// theory_lists/Written.pinned_writes; refused number_bytes/to_be_bytes.highest_twice, lowest_first,
+/// number_bytes/write_be_bytes.complement, last_place_is_refused, byte_changes_twice,
 /// promisebook_number_bytes/to_be_bytes.lowest_first.
 #[inline]
 #[must_use]
@@ -753,8 +753,8 @@ pub fn to_be_bytes(x: i32) -> [u8; 4] {
 ///
 /// Cited by rows C68; clause theory_digits/Digits.digits_high; contract
 /// promisebook_number_bytes::pb_u32_to_be_bytes; law theory_digits/Reading.digits_high_of_number_high; pinned by
-/// theory_lists/Written.pinned_writes; refused number_bytes16/to_be_bytes.highest_twice, lowest_first,
-/// number_bytes16/write_be_bytes.complement, last_place_is_refused, byte_changes_twice,
+/// theory_lists/Written.pinned_writes; refused number_bytes/to_be_bytes.highest_twice, lowest_first,
+/// number_bytes/write_be_bytes.complement, last_place_is_refused, byte_changes_twice,
 /// promisebook_number_bytes/to_be_bytes.lowest_first.
 #[inline]
 #[must_use]

@@ -16,7 +16,7 @@ use core::ops::Range;
 ///
 /// Cited by rows A20; clause vstd_integers/Signed.wrapping_add; contract
 /// promisebook_isize::pb_isize_wrapping_add; law vstd_integers/Signed.wrapping_add_kept; pinned by
-/// vstd_integers/Pinned.pinned_equation; refused signed8_sums/wrapping_add.complement, twice.
+/// vstd_integers/Pinned.pinned_equation; refused signed_sums/wrapping_add.complement, twice.
 #[inline]
 #[must_use]
 pub fn wrapping_add(x: isize, y: isize) -> isize {
@@ -33,7 +33,7 @@ pub fn wrapping_add(x: isize, y: isize) -> isize {
 ///
 /// Cited by rows A21; clause vstd_integers/Signed.wrapping_add_unsigned; contract
 /// promisebook_isize::pb_isize_wrapping_add_unsigned; law vstd_integers/Signed.wrapping_add_unsigned_kept; pinned
-/// by vstd_integers/Pinned.pinned_equation; refused signed8_sums/wrapping_add_unsigned.complement, subtracts.
+/// by vstd_integers/Pinned.pinned_equation; refused signed_sums/wrapping_add_unsigned.complement, subtracts.
 #[inline]
 #[must_use]
 pub fn wrapping_add_unsigned(x: isize, y: usize) -> isize {
@@ -50,7 +50,7 @@ pub fn wrapping_add_unsigned(x: isize, y: usize) -> isize {
 ///
 /// Cited by rows A22; clause vstd_integers/Signed.wrapping_sub; contract
 /// promisebook_isize::pb_isize_wrapping_sub; law vstd_integers/Signed.wrapping_sub_kept; pinned by
-/// vstd_integers/Pinned.pinned_equation; refused signed8_sums/wrapping_sub.nothing_left, other_way_round,
+/// vstd_integers/Pinned.pinned_equation; refused signed_sums/wrapping_sub.nothing_left, other_way_round,
 /// vstd_integers/wrapping_sub.passes_the_top.
 #[inline]
 #[must_use]
@@ -68,7 +68,7 @@ pub fn wrapping_sub(x: isize, y: isize) -> isize {
 ///
 /// Cited by rows A23; clause vstd_integers/Signed.wrapping_mul; contract
 /// promisebook_isize::pb_isize_wrapping_mul; law vstd_integers/Signed.wrapping_mul_kept; pinned by
-/// vstd_integers/Pinned.pinned_equation; refused signed8_sums/wrapping_mul.complement, square.
+/// vstd_integers/Pinned.pinned_equation; refused signed_sums/wrapping_mul.complement, square.
 #[inline]
 #[must_use]
 pub fn wrapping_mul(x: isize, y: isize) -> isize {
@@ -85,7 +85,7 @@ pub fn wrapping_mul(x: isize, y: isize) -> isize {
 ///
 /// Cited by rows A24; clause vstd_integers/Signed.wrapping_shl; contract
 /// promisebook_isize::pb_isize_wrapping_shl; law vstd_integers/Signed.wrapping_shl_kept; pinned by
-/// vstd_integers/Pinned.pinned_equation; refused signed8_bits/wrapping_shl.by_the_width_is_0, modulo_7.
+/// vstd_integers/Pinned.pinned_equation; refused signed_bits/wrapping_shl.by_the_width_is_0, modulo_7.
 #[inline]
 #[must_use]
 pub fn wrapping_shl(x: isize, rhs: u32) -> isize {
@@ -103,7 +103,7 @@ pub fn wrapping_shl(x: isize, rhs: u32) -> isize {
 ///
 /// Cited by rows A25; clause vstd_integers/Signed.wrapping_shr; contract
 /// promisebook_isize::pb_isize_wrapping_shr; law vstd_integers/Signed.wrapping_shr_kept; pinned by
-/// vstd_integers/Pinned.pinned_equation; refused signed8_bits/wrapping_shr.modulo_7, towards_zero.
+/// vstd_integers/Pinned.pinned_equation; refused signed_bits/wrapping_shr.modulo_7, towards_zero.
 #[inline]
 #[must_use]
 pub fn wrapping_shr(x: isize, rhs: u32) -> isize {
@@ -120,7 +120,7 @@ pub fn wrapping_shr(x: isize, rhs: u32) -> isize {
 ///
 /// Cited by rows A26; clause vstd_integers/Signed.checked_add; contract promisebook_isize::pb_isize_checked_add;
 /// law vstd_integers/Signed.checked_add_kept; pinned by vstd_integers/Pinned.pinned_option; refused
-/// signed8_sums/checked_add.first_summand, largest_refused, signed64_sums/checked_add.other_signs_refused.
+/// signed_sums/checked_add.first_summand, largest_refused, other_signs_refused.
 #[inline]
 #[must_use]
 pub fn checked_add(x: isize, y: isize) -> Option<isize> {
@@ -138,7 +138,7 @@ pub fn checked_add(x: isize, y: isize) -> Option<isize> {
 ///
 /// Cited by rows A27; clause vstd_integers/Signed.checked_add_unsigned; contract
 /// promisebook_isize::pb_isize_checked_add_unsigned; law vstd_integers/Signed.checked_add_unsigned_kept; pinned
-/// by vstd_integers/Pinned.pinned_option; refused signed8_sums/checked_add_unsigned.first_summand, rise_refused.
+/// by vstd_integers/Pinned.pinned_option; refused signed_sums/checked_add_unsigned.first_summand, rise_refused.
 #[inline]
 #[must_use]
 pub fn checked_add_unsigned(x: isize, y: usize) -> Option<isize> {
@@ -156,7 +156,7 @@ pub fn checked_add_unsigned(x: isize, y: usize) -> Option<isize> {
 ///
 /// Cited by rows A28; clause vstd_integers/Signed.checked_sub; contract promisebook_isize::pb_isize_checked_sub;
 /// law vstd_integers/Signed.checked_sub_kept; pinned by vstd_integers/Pinned.pinned_option; refused
-/// signed8_sums/checked_sub.least_refused, other_way_round, signed64_sums/checked_sub.other_signs_refused.
+/// signed_sums/checked_sub.least_refused, other_way_round, other_signs_refused.
 #[inline]
 #[must_use]
 pub fn checked_sub(x: isize, y: isize) -> Option<isize> {
@@ -174,7 +174,7 @@ pub fn checked_sub(x: isize, y: isize) -> Option<isize> {
 ///
 /// Cited by rows A29; clause vstd_integers/Signed.checked_sub_unsigned; contract
 /// promisebook_isize::pb_isize_checked_sub_unsigned; law vstd_integers/Signed.checked_sub_unsigned_kept; pinned
-/// by vstd_integers/Pinned.pinned_option; refused signed8_sums/checked_sub_unsigned.fall_refused, first_number.
+/// by vstd_integers/Pinned.pinned_option; refused signed_sums/checked_sub_unsigned.fall_refused, first_number.
 #[inline]
 #[must_use]
 pub fn checked_sub_unsigned(x: isize, y: usize) -> Option<isize> {
@@ -192,7 +192,7 @@ pub fn checked_sub_unsigned(x: isize, y: usize) -> Option<isize> {
 ///
 /// Cited by rows A30; clause vstd_integers/Signed.checked_mul; contract promisebook_isize::pb_isize_checked_mul;
 /// law vstd_integers/Signed.checked_mul_kept; pinned by vstd_integers/Pinned.pinned_option; refused
-/// signed8_sums/checked_mul.larger_quotient_taken, square.
+/// signed_sums/checked_mul.larger_quotient_taken, square.
 #[inline]
 #[must_use]
 pub fn checked_mul(x: isize, y: isize) -> Option<isize> {
@@ -215,7 +215,7 @@ pub fn checked_mul(x: isize, y: isize) -> Option<isize> {
 ///
 /// Cited by rows A31; clause vstd_integers/Signed.checked_div; contract promisebook_isize::pb_isize_checked_div;
 /// law vstd_integers/Signed.checked_div_kept; pinned by vstd_integers/Pinned.pinned_option; refused
-/// signed8_division/checked_div.least_by_minus_one_wraps, other_dividend, vstd_integers/checked_div.euclidean,
+/// signed_division/checked_div.least_by_minus_one_wraps, other_dividend, vstd_integers/checked_div.euclidean,
 /// vstd_integers/divided_unless.least_by_minus_one_not_refused.
 #[inline]
 #[must_use]
@@ -239,7 +239,7 @@ pub fn checked_div(x: isize, y: isize) -> Option<isize> {
 ///
 /// Cited by rows A32; clause vstd_integers/Signed.checked_div_euclid; contract
 /// promisebook_isize::pb_isize_checked_div_euclid; law vstd_integers/Signed.checked_div_euclid_kept; pinned by
-/// vstd_integers/Pinned.pinned_option; refused signed8_division/checked_div_euclid.not_mended, towards_zero,
+/// vstd_integers/Pinned.pinned_option; refused signed_division/checked_div_euclid.not_mended, towards_zero,
 /// promisebook_i8/checked_div_euclid.towards_zero.
 #[inline]
 #[must_use]
@@ -263,7 +263,7 @@ pub fn checked_div_euclid(x: isize, y: isize) -> Option<isize> {
 ///
 /// Cited by rows A33; clause vstd_integers/Signed.checked_rem; contract promisebook_isize::pb_isize_checked_rem;
 /// law vstd_integers/Signed.checked_rem_kept; pinned by vstd_integers/Pinned.pinned_option; refused
-/// signed8_division/checked_rem.euclidean, least_by_minus_one_is_0, promisebook_i8/checked_rem.euclidean.
+/// signed_division/checked_rem.euclidean, least_by_minus_one_is_0, promisebook_i8/checked_rem.euclidean.
 #[inline]
 #[must_use]
 pub fn checked_rem(x: isize, y: isize) -> Option<isize> {
@@ -286,7 +286,7 @@ pub fn checked_rem(x: isize, y: isize) -> Option<isize> {
 ///
 /// Cited by rows A34; clause vstd_integers/Signed.checked_rem_euclid; contract
 /// promisebook_isize::pb_isize_checked_rem_euclid; law vstd_integers/Signed.checked_rem_euclid_kept; pinned by
-/// vstd_integers/Pinned.pinned_option; refused signed8_division/checked_rem_euclid.absolute_value, not_mended.
+/// vstd_integers/Pinned.pinned_option; refused signed_division/checked_rem_euclid.absolute_value, not_mended.
 #[inline]
 #[must_use]
 pub fn checked_rem_euclid(x: isize, y: isize) -> Option<isize> {
@@ -431,8 +431,8 @@ pub fn ge(x: isize, y: isize) -> bool {
 ///
 /// Cited by rows A38; clause vstd_integers/Compare.cmp; contract promisebook_isize::pb_isize_cmp; law
 /// vstd_integers/Compare.cmp_kept; pinned by vstd_integers/Pinned.pinned_equation; refused
-/// ordering/number.greater_is_0, less_is_1, unsigned8_order/compare.equal_is_greater, less_is_greater,
-/// signed8_order/compare.equal_is_greater, less_is_greater.
+/// ordering/number.greater_is_0, less_is_1, unsigned_order/compare.equal_is_greater, less_is_greater,
+/// signed_order/compare.equal_is_greater, less_is_greater.
 #[inline]
 #[must_use]
 pub fn cmp(x: isize, y: isize) -> Ordering {

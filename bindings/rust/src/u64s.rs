@@ -16,7 +16,7 @@ use core::ops::Range;
 ///
 /// Cited by rows A1; clause vstd_integers/Unsigned.wrapping_add; contract promisebook_u64::pb_u64_wrapping_add;
 /// law vstd_integers/Unsigned.wrapping_add_kept; pinned by vstd_integers/Pinned.pinned_unsigned; refused
-/// unsigned8_sums/wrapping_add.one_too_few, sum_of_255_wraps.
+/// unsigned_sums/wrapping_add.one_too_few, sum_of_255_wraps.
 #[inline]
 #[must_use]
 pub fn wrapping_add(x: u64, y: u64) -> u64 {
@@ -34,7 +34,7 @@ pub fn wrapping_add(x: u64, y: u64) -> u64 {
 ///
 /// Cited by rows A2; clause vstd_integers/Unsigned.wrapping_add_signed; contract
 /// promisebook_u64::pb_u64_wrapping_add_signed; law vstd_integers/Unsigned.wrapping_add_signed_kept; pinned by
-/// vstd_integers/Pinned.pinned_unsigned; refused unsigned8_sums/wrapping_add_signed.other_summand, subtracts.
+/// vstd_integers/Pinned.pinned_unsigned; refused signed_sums/wrapping_add_signed.other_summand, subtracts.
 #[inline]
 #[must_use]
 pub fn wrapping_add_signed(x: u64, y: i64) -> u64 {
@@ -51,7 +51,7 @@ pub fn wrapping_add_signed(x: u64, y: i64) -> u64 {
 ///
 /// Cited by rows A3; clause vstd_integers/Unsigned.wrapping_sub; contract promisebook_u64::pb_u64_wrapping_sub;
 /// law vstd_integers/Unsigned.wrapping_sub_kept; pinned by vstd_integers/Pinned.pinned_unsigned; refused
-/// unsigned8_sums/wrapping_sub.one_too_many, zero_borrows.
+/// unsigned_sums/wrapping_sub.one_too_many, zero_borrows.
 #[inline]
 #[must_use]
 pub fn wrapping_sub(x: u64, y: u64) -> u64 {
@@ -69,7 +69,7 @@ pub fn wrapping_sub(x: u64, y: u64) -> u64 {
 ///
 /// Cited by rows A4; clause vstd_integers/Unsigned.wrapping_mul; contract promisebook_u64::pb_u64_wrapping_mul;
 /// law vstd_integers/Unsigned.wrapping_mul_kept; pinned by vstd_integers/Pinned.pinned_unsigned; refused
-/// unsigned8_sums/wrapping_mul.modulo_255, square.
+/// unsigned_sums/wrapping_mul.square, integers/wrapping_mul.modulo_255.
 #[inline]
 #[must_use]
 pub fn wrapping_mul(x: u64, y: u64) -> u64 {
@@ -86,7 +86,7 @@ pub fn wrapping_mul(x: u64, y: u64) -> u64 {
 ///
 /// Cited by rows A5; clause vstd_integers/Unsigned.wrapping_shl; contract promisebook_u64::pb_u64_wrapping_shl;
 /// law vstd_integers/Unsigned.wrapping_shl_kept; pinned by vstd_integers/Pinned.pinned_unsigned; refused
-/// unsigned8_bits/wrapping_shl.by_the_width_is_0, modulo_7.
+/// unsigned_bits/wrapping_shl.by_the_width_is_0, modulo_7.
 #[inline]
 #[must_use]
 pub fn wrapping_shl(x: u64, rhs: u32) -> u64 {
@@ -102,7 +102,7 @@ pub fn wrapping_shl(x: u64, rhs: u32) -> u64 {
 ///
 /// Cited by rows A6; clause vstd_integers/Unsigned.wrapping_shr; contract promisebook_u64::pb_u64_wrapping_shr;
 /// law vstd_integers/Unsigned.wrapping_shr_kept; pinned by vstd_integers/Pinned.pinned_unsigned; refused
-/// unsigned8_bits/wrapping_shr.by_the_width_is_0, modulo_7.
+/// unsigned_bits/wrapping_shr.by_the_width_is_0, modulo_7.
 #[inline]
 #[must_use]
 pub fn wrapping_shr(x: u64, rhs: u32) -> u64 {
@@ -119,8 +119,7 @@ pub fn wrapping_shr(x: u64, rhs: u32) -> u64 {
 ///
 /// Cited by rows A7; clause vstd_integers/Unsigned.checked_add; contract promisebook_u64::pb_u64_checked_add; law
 /// vstd_integers/Unsigned.checked_add_kept; pinned by vstd_integers/Pinned.pinned_unsigned_option; refused
-/// unsigned8_sums/checked_add.second_summand_alone, sum_of_255_refused,
-/// vstd_integers/checked_add.largest_refused.
+/// unsigned_sums/checked_add.second_summand_alone, sum_of_255_refused, vstd_integers/checked_add.largest_refused.
 #[inline]
 #[must_use]
 pub fn checked_add(x: u64, y: u64) -> Option<u64> {
@@ -139,8 +138,7 @@ pub fn checked_add(x: u64, y: u64) -> Option<u64> {
 ///
 /// Cited by rows A8; clause vstd_integers/Unsigned.checked_add_signed; contract
 /// promisebook_u64::pb_u64_checked_add_signed; law vstd_integers/Unsigned.checked_add_signed_kept; pinned by
-/// vstd_integers/Pinned.pinned_unsigned_option; refused unsigned8_sums/checked_add_signed.first_summand,
-/// other_side.
+/// vstd_integers/Pinned.pinned_unsigned_option; refused signed_sums/checked_add_signed.first_summand, other_side.
 #[inline]
 #[must_use]
 pub fn checked_add_signed(x: u64, y: i64) -> Option<u64> {
@@ -158,7 +156,7 @@ pub fn checked_add_signed(x: u64, y: i64) -> Option<u64> {
 ///
 /// Cited by rows A9; clause vstd_integers/Unsigned.checked_sub; contract promisebook_u64::pb_u64_checked_sub; law
 /// vstd_integers/Unsigned.checked_sub_kept; pinned by vstd_integers/Pinned.pinned_unsigned_option; refused
-/// unsigned8_sums/checked_sub.nothing_taken, other_way_round.
+/// unsigned_sums/checked_sub.nothing_taken, other_way_round.
 #[inline]
 #[must_use]
 pub fn checked_sub(x: u64, y: u64) -> Option<u64> {
@@ -177,7 +175,7 @@ pub fn checked_sub(x: u64, y: u64) -> Option<u64> {
 ///
 /// Cited by rows A10; clause vstd_integers/Unsigned.checked_mul; contract promisebook_u64::pb_u64_checked_mul;
 /// law vstd_integers/Unsigned.checked_mul_kept; pinned by vstd_integers/Pinned.pinned_unsigned_option; refused
-/// unsigned8_sums/checked_mul.larger_quotient_taken, square.
+/// unsigned_sums/checked_mul.larger_quotient_taken, square.
 #[inline]
 #[must_use]
 pub fn checked_mul(x: u64, y: u64) -> Option<u64> {
@@ -198,7 +196,7 @@ pub fn checked_mul(x: u64, y: u64) -> Option<u64> {
 /// Cited by rows A11; clause vstd_integers/Unsigned.checked_next_multiple_of; contract
 /// promisebook_u64::pb_u64_checked_next_multiple_of; law vstd_integers/Unsigned.checked_next_multiple_of_kept;
 /// pinned by vstd_integers/Pinned.pinned_unsigned_option; refused
-/// unsigned8_division/checked_next_multiple_of.always_a_multiple, first_multiple,
+/// unsigned_division/checked_next_multiple_of.always_a_multiple, first_multiple,
 /// vstd_integers/checked_next_multiple_of.zero_not_refused, promisebook_u8/checked_next_multiple_of.nine_bits.
 #[inline]
 #[must_use]
@@ -218,7 +216,7 @@ pub fn checked_next_multiple_of(x: u64, y: u64) -> Option<u64> {
 ///
 /// Cited by rows A12; clause vstd_integers/Unsigned.checked_div; contract promisebook_u64::pb_u64_checked_div;
 /// law vstd_integers/Unsigned.checked_div_kept; pinned by vstd_integers/Pinned.pinned_unsigned_option; refused
-/// unsigned8_division/checked_div.by_zero_is_0, other_dividend.
+/// unsigned_division/checked_div.by_zero_is_0, other_dividend.
 #[inline]
 #[must_use]
 pub fn checked_div(x: u64, y: u64) -> Option<u64> {
@@ -237,7 +235,7 @@ pub fn checked_div(x: u64, y: u64) -> Option<u64> {
 ///
 /// Cited by rows A13; clause vstd_integers/Unsigned.checked_div; contract
 /// promisebook_u64::pb_u64_checked_div_euclid; law vstd_integers/Unsigned.checked_div_euclid_kept; pinned by
-/// vstd_integers/Pinned.pinned_unsigned_option; refused unsigned8_division/checked_div_euclid.by_zero_is_0,
+/// vstd_integers/Pinned.pinned_unsigned_option; refused unsigned_division/checked_div_euclid.by_zero_is_0,
 /// other_way_round.
 #[inline]
 #[must_use]
@@ -257,7 +255,7 @@ pub fn checked_div_euclid(x: u64, y: u64) -> Option<u64> {
 ///
 /// Cited by rows A14; clause vstd_integers/Unsigned.checked_rem; contract promisebook_u64::pb_u64_checked_rem;
 /// law vstd_integers/Unsigned.checked_rem_kept; pinned by vstd_integers/Pinned.pinned_unsigned_option; refused
-/// unsigned8_division/checked_rem.by_zero_is_dividend, other_dividend.
+/// unsigned_division/checked_rem.by_zero_is_dividend, other_dividend.
 #[inline]
 #[must_use]
 pub fn checked_rem(x: u64, y: u64) -> Option<u64> {
@@ -276,8 +274,8 @@ pub fn checked_rem(x: u64, y: u64) -> Option<u64> {
 ///
 /// Cited by rows A15; clause vstd_integers/Unsigned.checked_rem; contract
 /// promisebook_u64::pb_u64_checked_rem_euclid; law vstd_integers/Unsigned.checked_rem_euclid_kept; pinned by
-/// vstd_integers/Pinned.pinned_unsigned_option; refused
-/// unsigned8_division/checked_rem_euclid.by_zero_is_dividend, other_way_round.
+/// vstd_integers/Pinned.pinned_unsigned_option; refused unsigned_division/checked_rem_euclid.by_zero_is_dividend,
+/// other_way_round.
 #[inline]
 #[must_use]
 pub fn checked_rem_euclid(x: u64, y: u64) -> Option<u64> {
@@ -295,7 +293,7 @@ pub fn checked_rem_euclid(x: u64, y: u64) -> Option<u64> {
 ///
 /// Cited by rows A16; clause vstd_integers/Unsigned.saturating_add; contract
 /// promisebook_u64::pb_u64_saturating_add; law vstd_integers/Unsigned.saturating_add_kept; pinned by
-/// vstd_integers/Pinned.pinned_unsigned; refused unsigned8_sums/saturating_add.first_summand, wraps_to_0.
+/// vstd_integers/Pinned.pinned_unsigned; refused unsigned_sums/saturating_add.first_summand, wraps_to_0.
 #[inline]
 #[must_use]
 pub fn saturating_add(x: u64, y: u64) -> u64 {
@@ -312,7 +310,7 @@ pub fn saturating_add(x: u64, y: u64) -> u64 {
 ///
 /// Cited by rows A17; clause vstd_integers/Unsigned.saturating_sub; contract
 /// promisebook_u64::pb_u64_saturating_sub; law vstd_integers/Unsigned.saturating_sub_kept; pinned by
-/// vstd_integers/Pinned.pinned_unsigned; refused unsigned8_sums/saturating_sub.other_side, stops_at_1,
+/// vstd_integers/Pinned.pinned_unsigned; refused unsigned_sums/saturating_sub.other_side, stops_at_1,
 /// promisebook_u8/saturating_sub.wraps.
 #[inline]
 #[must_use]
@@ -331,7 +329,7 @@ pub fn saturating_sub(x: u64, y: u64) -> u64 {
 ///
 /// Cited by rows A18; clause vstd_integers/Unsigned.saturating_mul; contract
 /// promisebook_u64::pb_u64_saturating_mul; law vstd_integers/Unsigned.saturating_mul_kept; pinned by
-/// vstd_integers/Pinned.pinned_unsigned; refused unsigned8_sums/saturating_mul.square, wraps_to_0,
+/// vstd_integers/Pinned.pinned_unsigned; refused unsigned_sums/saturating_mul.square, wraps_to_0,
 /// vstd_integers/saturating_mul.wraps.
 #[inline]
 #[must_use]
@@ -351,7 +349,7 @@ pub fn saturating_mul(x: u64, y: u64) -> u64 {
 ///
 /// Cited by rows A19; clause vstd_integers/Unsigned.is_multiple_of; contract
 /// promisebook_u64::pb_u64_is_multiple_of; law vstd_integers/Unsigned.is_multiple_of_kept; pinned by
-/// vstd_integers/Pinned.pinned_equation; refused unsigned8_division/is_multiple_of.all_of_zero, remainder_of_1,
+/// vstd_integers/Pinned.pinned_equation; refused unsigned_division/is_multiple_of.all_of_zero, remainder_of_1,
 /// vstd_integers/is_multiple_of.all_of_zero.
 #[inline]
 #[must_use]
@@ -496,8 +494,8 @@ pub fn ge(x: u64, y: u64) -> bool {
 ///
 /// Cited by rows A38; clause vstd_integers/Compare.cmp; contract promisebook_u64::pb_u64_cmp; law
 /// vstd_integers/Compare.cmp_kept; pinned by vstd_integers/Pinned.pinned_equation; refused
-/// ordering/number.greater_is_0, less_is_1, unsigned8_order/compare.equal_is_greater, less_is_greater,
-/// signed8_order/compare.equal_is_greater, less_is_greater.
+/// ordering/number.greater_is_0, less_is_1, unsigned_order/compare.equal_is_greater, less_is_greater,
+/// signed_order/compare.equal_is_greater, less_is_greater.
 #[inline]
 #[must_use]
 pub fn cmp(x: u64, y: u64) -> Ordering {
@@ -612,8 +610,8 @@ pub fn trailing_ones(i: u64) -> u32 {
 ///
 /// Cited by rows C1, C2; clause vstd_number_bytes/Bytes.from_le_bytes, spec_from_le_bytes; contract
 /// promisebook_number_bytes::pb_u64_from_le_bytes; law vstd_number_bytes/Bytes.from_le_bytes_kept; pinned by
-/// vstd_integers/Pinned.pinned_unsigned_option; refused number_bytes16/from_le_bytes.two_bytes_for_three,
-/// vstd_number_bytes/from_le_bytes.any_length, one_byte_fewer, number_bytes16/from_le_bytes.highest_first,
+/// vstd_integers/Pinned.pinned_unsigned_option; refused number_bytes/from_le_bytes.two_bytes_for_three,
+/// vstd_number_bytes/from_le_bytes.any_length, one_byte_fewer, number_bytes/from_le_bytes.highest_first,
 /// vstd_number_bytes/from_le_bytes.first_byte_last.
 #[inline]
 #[must_use]
@@ -634,8 +632,8 @@ pub fn from_le_bytes(s: &[u8]) -> Option<u64> {
 ///
 /// Cited by rows C1, C2; clause vstd_number_bytes/Bytes.from_le_bytes, spec_from_le_bytes; contract
 /// promisebook_number_bytes::pb_u64_from_le_bytes; law vstd_number_bytes/Bytes.from_le_bytes_kept; pinned by
-/// vstd_integers/Pinned.pinned_unsigned_option; refused number_bytes16/from_le_bytes.two_bytes_for_three,
-/// vstd_number_bytes/from_le_bytes.any_length, one_byte_fewer, number_bytes16/from_le_bytes.highest_first,
+/// vstd_integers/Pinned.pinned_unsigned_option; refused number_bytes/from_le_bytes.two_bytes_for_three,
+/// vstd_number_bytes/from_le_bytes.any_length, one_byte_fewer, number_bytes/from_le_bytes.highest_first,
 /// vstd_number_bytes/from_le_bytes.first_byte_last.
 #[inline]
 #[must_use]
@@ -652,8 +650,8 @@ pub fn from_le_bytes_in(s: &[u8], part: Range<usize>) -> Option<u64> {
 ///
 /// Cited by rows C3; clause vstd_number_bytes/Bytes.spec_to_le_bytes; contract
 /// promisebook_number_bytes::pb_u64_to_le_bytes; law vstd_number_bytes/Bytes.to_le_bytes_is; pinned by
-/// theory_lists/Written.pinned_writes; refused number_bytes16/to_le_bytes.highest_first, lowest_twice,
-/// number_bytes16/write_le_bytes.elsewhere, one_place_too_far, byte_behind_changes,
+/// theory_lists/Written.pinned_writes; refused number_bytes/to_le_bytes.highest_first, lowest_twice,
+/// number_bytes/write_le_bytes.elsewhere, one_place_too_far, byte_behind_changes,
 /// vstd_number_bytes/to_le_bytes.lowest_byte_only, seven_bits, promisebook_number_bytes/to_le_bytes.four_bytes.
 #[inline]
 #[must_use]
@@ -678,8 +676,8 @@ pub fn to_le_bytes(x: u64) -> [u8; 8] {
 ///
 /// Cited by rows C3; clause vstd_number_bytes/Bytes.spec_to_le_bytes; contract
 /// promisebook_number_bytes::pb_u64_to_le_bytes; law vstd_number_bytes/Bytes.to_le_bytes_is; pinned by
-/// theory_lists/Written.pinned_writes; refused number_bytes16/to_le_bytes.highest_first, lowest_twice,
-/// number_bytes16/write_le_bytes.elsewhere, one_place_too_far, byte_behind_changes,
+/// theory_lists/Written.pinned_writes; refused number_bytes/to_le_bytes.highest_first, lowest_twice,
+/// number_bytes/write_le_bytes.elsewhere, one_place_too_far, byte_behind_changes,
 /// vstd_number_bytes/to_le_bytes.lowest_byte_only, seven_bits, promisebook_number_bytes/to_le_bytes.four_bytes.
 #[inline]
 #[must_use]
@@ -697,7 +695,7 @@ pub fn to_le_bytes_in(s: &mut [u8], part: Range<usize>, x: u64) -> Option<()> {
 ///
 /// Cited by rows C67; clause theory_digits/Number.number_high; contract
 /// promisebook_number_bytes::pb_u64_from_be_bytes; law theory_digits/Reading.number_high_of_digits_high; pinned
-/// by vstd_integers/Pinned.pinned_unsigned_option; refused number_bytes16/from_be_bytes.lowest_first,
+/// by vstd_integers/Pinned.pinned_unsigned_option; refused number_bytes/from_be_bytes.lowest_first,
 /// two_bytes_for_one.
 #[inline]
 #[must_use]
@@ -718,7 +716,7 @@ pub fn from_be_bytes(s: &[u8]) -> Option<u64> {
 ///
 /// Cited by rows C67; clause theory_digits/Number.number_high; contract
 /// promisebook_number_bytes::pb_u64_from_be_bytes; law theory_digits/Reading.number_high_of_digits_high; pinned
-/// by vstd_integers/Pinned.pinned_unsigned_option; refused number_bytes16/from_be_bytes.lowest_first,
+/// by vstd_integers/Pinned.pinned_unsigned_option; refused number_bytes/from_be_bytes.lowest_first,
 /// two_bytes_for_one.
 #[inline]
 #[must_use]
@@ -735,8 +733,8 @@ pub fn from_be_bytes_in(s: &[u8], part: Range<usize>) -> Option<u64> {
 ///
 /// Cited by rows C68; clause theory_digits/Digits.digits_high; contract
 /// promisebook_number_bytes::pb_u64_to_be_bytes; law theory_digits/Reading.digits_high_of_number_high; pinned by
-/// theory_lists/Written.pinned_writes; refused number_bytes16/to_be_bytes.highest_twice, lowest_first,
-/// number_bytes16/write_be_bytes.complement, last_place_is_refused, byte_changes_twice,
+/// theory_lists/Written.pinned_writes; refused number_bytes/to_be_bytes.highest_twice, lowest_first,
+/// number_bytes/write_be_bytes.complement, last_place_is_refused, byte_changes_twice,
 /// promisebook_number_bytes/to_be_bytes.lowest_first.
 #[inline]
 #[must_use]
@@ -761,8 +759,8 @@ pub fn to_be_bytes(x: u64) -> [u8; 8] {
 ///
 /// Cited by rows C68; clause theory_digits/Digits.digits_high; contract
 /// promisebook_number_bytes::pb_u64_to_be_bytes; law theory_digits/Reading.digits_high_of_number_high; pinned by
-/// theory_lists/Written.pinned_writes; refused number_bytes16/to_be_bytes.highest_twice, lowest_first,
-/// number_bytes16/write_be_bytes.complement, last_place_is_refused, byte_changes_twice,
+/// theory_lists/Written.pinned_writes; refused number_bytes/to_be_bytes.highest_twice, lowest_first,
+/// number_bytes/write_be_bytes.complement, last_place_is_refused, byte_changes_twice,
 /// promisebook_number_bytes/to_be_bytes.lowest_first.
 #[inline]
 #[must_use]

@@ -16,7 +16,7 @@ use core::ops::Range;
 ///
 /// Cited by rows A1; clause vstd_integers/Unsigned.wrapping_add; contract
 /// promisebook_usize::pb_usize_wrapping_add; law vstd_integers/Unsigned.wrapping_add_kept; pinned by
-/// vstd_integers/Pinned.pinned_unsigned; refused unsigned8_sums/wrapping_add.one_too_few, sum_of_255_wraps.
+/// vstd_integers/Pinned.pinned_unsigned; refused unsigned_sums/wrapping_add.one_too_few, sum_of_255_wraps.
 #[inline]
 #[must_use]
 pub fn wrapping_add(x: usize, y: usize) -> usize {
@@ -34,7 +34,7 @@ pub fn wrapping_add(x: usize, y: usize) -> usize {
 ///
 /// Cited by rows A2; clause vstd_integers/Unsigned.wrapping_add_signed; contract
 /// promisebook_usize::pb_usize_wrapping_add_signed; law vstd_integers/Unsigned.wrapping_add_signed_kept; pinned
-/// by vstd_integers/Pinned.pinned_unsigned; refused unsigned8_sums/wrapping_add_signed.other_summand, subtracts.
+/// by vstd_integers/Pinned.pinned_unsigned; refused signed_sums/wrapping_add_signed.other_summand, subtracts.
 #[inline]
 #[must_use]
 pub fn wrapping_add_signed(x: usize, y: isize) -> usize {
@@ -51,7 +51,7 @@ pub fn wrapping_add_signed(x: usize, y: isize) -> usize {
 ///
 /// Cited by rows A3; clause vstd_integers/Unsigned.wrapping_sub; contract
 /// promisebook_usize::pb_usize_wrapping_sub; law vstd_integers/Unsigned.wrapping_sub_kept; pinned by
-/// vstd_integers/Pinned.pinned_unsigned; refused unsigned8_sums/wrapping_sub.one_too_many, zero_borrows.
+/// vstd_integers/Pinned.pinned_unsigned; refused unsigned_sums/wrapping_sub.one_too_many, zero_borrows.
 #[inline]
 #[must_use]
 pub fn wrapping_sub(x: usize, y: usize) -> usize {
@@ -69,7 +69,8 @@ pub fn wrapping_sub(x: usize, y: usize) -> usize {
 ///
 /// Cited by rows A4; clause vstd_integers/Unsigned.wrapping_mul; contract
 /// promisebook_usize::pb_usize_wrapping_mul; law vstd_integers/Unsigned.wrapping_mul_kept; pinned by
-/// vstd_integers/Pinned.pinned_unsigned; refused unsigned8_sums/wrapping_mul.modulo_255, square.
+/// vstd_integers/Pinned.pinned_unsigned; refused unsigned_sums/wrapping_mul.square,
+/// integers/wrapping_mul.modulo_255.
 #[inline]
 #[must_use]
 pub fn wrapping_mul(x: usize, y: usize) -> usize {
@@ -86,7 +87,7 @@ pub fn wrapping_mul(x: usize, y: usize) -> usize {
 ///
 /// Cited by rows A5; clause vstd_integers/Unsigned.wrapping_shl; contract
 /// promisebook_usize::pb_usize_wrapping_shl; law vstd_integers/Unsigned.wrapping_shl_kept; pinned by
-/// vstd_integers/Pinned.pinned_unsigned; refused unsigned8_bits/wrapping_shl.by_the_width_is_0, modulo_7.
+/// vstd_integers/Pinned.pinned_unsigned; refused unsigned_bits/wrapping_shl.by_the_width_is_0, modulo_7.
 #[inline]
 #[must_use]
 pub fn wrapping_shl(x: usize, rhs: u32) -> usize {
@@ -102,7 +103,7 @@ pub fn wrapping_shl(x: usize, rhs: u32) -> usize {
 ///
 /// Cited by rows A6; clause vstd_integers/Unsigned.wrapping_shr; contract
 /// promisebook_usize::pb_usize_wrapping_shr; law vstd_integers/Unsigned.wrapping_shr_kept; pinned by
-/// vstd_integers/Pinned.pinned_unsigned; refused unsigned8_bits/wrapping_shr.by_the_width_is_0, modulo_7.
+/// vstd_integers/Pinned.pinned_unsigned; refused unsigned_bits/wrapping_shr.by_the_width_is_0, modulo_7.
 #[inline]
 #[must_use]
 pub fn wrapping_shr(x: usize, rhs: u32) -> usize {
@@ -119,8 +120,7 @@ pub fn wrapping_shr(x: usize, rhs: u32) -> usize {
 ///
 /// Cited by rows A7; clause vstd_integers/Unsigned.checked_add; contract promisebook_usize::pb_usize_checked_add;
 /// law vstd_integers/Unsigned.checked_add_kept; pinned by vstd_integers/Pinned.pinned_unsigned_option; refused
-/// unsigned8_sums/checked_add.second_summand_alone, sum_of_255_refused,
-/// vstd_integers/checked_add.largest_refused.
+/// unsigned_sums/checked_add.second_summand_alone, sum_of_255_refused, vstd_integers/checked_add.largest_refused.
 #[inline]
 #[must_use]
 pub fn checked_add(x: usize, y: usize) -> Option<usize> {
@@ -139,8 +139,7 @@ pub fn checked_add(x: usize, y: usize) -> Option<usize> {
 ///
 /// Cited by rows A8; clause vstd_integers/Unsigned.checked_add_signed; contract
 /// promisebook_usize::pb_usize_checked_add_signed; law vstd_integers/Unsigned.checked_add_signed_kept; pinned by
-/// vstd_integers/Pinned.pinned_unsigned_option; refused unsigned8_sums/checked_add_signed.first_summand,
-/// other_side.
+/// vstd_integers/Pinned.pinned_unsigned_option; refused signed_sums/checked_add_signed.first_summand, other_side.
 #[inline]
 #[must_use]
 pub fn checked_add_signed(x: usize, y: isize) -> Option<usize> {
@@ -158,7 +157,7 @@ pub fn checked_add_signed(x: usize, y: isize) -> Option<usize> {
 ///
 /// Cited by rows A9; clause vstd_integers/Unsigned.checked_sub; contract promisebook_usize::pb_usize_checked_sub;
 /// law vstd_integers/Unsigned.checked_sub_kept; pinned by vstd_integers/Pinned.pinned_unsigned_option; refused
-/// unsigned8_sums/checked_sub.nothing_taken, other_way_round.
+/// unsigned_sums/checked_sub.nothing_taken, other_way_round.
 #[inline]
 #[must_use]
 pub fn checked_sub(x: usize, y: usize) -> Option<usize> {
@@ -177,7 +176,7 @@ pub fn checked_sub(x: usize, y: usize) -> Option<usize> {
 ///
 /// Cited by rows A10; clause vstd_integers/Unsigned.checked_mul; contract
 /// promisebook_usize::pb_usize_checked_mul; law vstd_integers/Unsigned.checked_mul_kept; pinned by
-/// vstd_integers/Pinned.pinned_unsigned_option; refused unsigned8_sums/checked_mul.larger_quotient_taken, square.
+/// vstd_integers/Pinned.pinned_unsigned_option; refused unsigned_sums/checked_mul.larger_quotient_taken, square.
 #[inline]
 #[must_use]
 pub fn checked_mul(x: usize, y: usize) -> Option<usize> {
@@ -198,7 +197,7 @@ pub fn checked_mul(x: usize, y: usize) -> Option<usize> {
 /// Cited by rows A11; clause vstd_integers/Unsigned.checked_next_multiple_of; contract
 /// promisebook_usize::pb_usize_checked_next_multiple_of; law
 /// vstd_integers/Unsigned.checked_next_multiple_of_kept; pinned by vstd_integers/Pinned.pinned_unsigned_option;
-/// refused unsigned8_division/checked_next_multiple_of.always_a_multiple, first_multiple,
+/// refused unsigned_division/checked_next_multiple_of.always_a_multiple, first_multiple,
 /// vstd_integers/checked_next_multiple_of.zero_not_refused, promisebook_u8/checked_next_multiple_of.nine_bits.
 #[inline]
 #[must_use]
@@ -218,7 +217,7 @@ pub fn checked_next_multiple_of(x: usize, y: usize) -> Option<usize> {
 ///
 /// Cited by rows A12; clause vstd_integers/Unsigned.checked_div; contract
 /// promisebook_usize::pb_usize_checked_div; law vstd_integers/Unsigned.checked_div_kept; pinned by
-/// vstd_integers/Pinned.pinned_unsigned_option; refused unsigned8_division/checked_div.by_zero_is_0,
+/// vstd_integers/Pinned.pinned_unsigned_option; refused unsigned_division/checked_div.by_zero_is_0,
 /// other_dividend.
 #[inline]
 #[must_use]
@@ -238,7 +237,7 @@ pub fn checked_div(x: usize, y: usize) -> Option<usize> {
 ///
 /// Cited by rows A13; clause vstd_integers/Unsigned.checked_div; contract
 /// promisebook_usize::pb_usize_checked_div_euclid; law vstd_integers/Unsigned.checked_div_euclid_kept; pinned by
-/// vstd_integers/Pinned.pinned_unsigned_option; refused unsigned8_division/checked_div_euclid.by_zero_is_0,
+/// vstd_integers/Pinned.pinned_unsigned_option; refused unsigned_division/checked_div_euclid.by_zero_is_0,
 /// other_way_round.
 #[inline]
 #[must_use]
@@ -258,7 +257,7 @@ pub fn checked_div_euclid(x: usize, y: usize) -> Option<usize> {
 ///
 /// Cited by rows A14; clause vstd_integers/Unsigned.checked_rem; contract
 /// promisebook_usize::pb_usize_checked_rem; law vstd_integers/Unsigned.checked_rem_kept; pinned by
-/// vstd_integers/Pinned.pinned_unsigned_option; refused unsigned8_division/checked_rem.by_zero_is_dividend,
+/// vstd_integers/Pinned.pinned_unsigned_option; refused unsigned_division/checked_rem.by_zero_is_dividend,
 /// other_dividend.
 #[inline]
 #[must_use]
@@ -278,8 +277,8 @@ pub fn checked_rem(x: usize, y: usize) -> Option<usize> {
 ///
 /// Cited by rows A15; clause vstd_integers/Unsigned.checked_rem; contract
 /// promisebook_usize::pb_usize_checked_rem_euclid; law vstd_integers/Unsigned.checked_rem_euclid_kept; pinned by
-/// vstd_integers/Pinned.pinned_unsigned_option; refused
-/// unsigned8_division/checked_rem_euclid.by_zero_is_dividend, other_way_round.
+/// vstd_integers/Pinned.pinned_unsigned_option; refused unsigned_division/checked_rem_euclid.by_zero_is_dividend,
+/// other_way_round.
 #[inline]
 #[must_use]
 pub fn checked_rem_euclid(x: usize, y: usize) -> Option<usize> {
@@ -297,7 +296,7 @@ pub fn checked_rem_euclid(x: usize, y: usize) -> Option<usize> {
 ///
 /// Cited by rows A16; clause vstd_integers/Unsigned.saturating_add; contract
 /// promisebook_usize::pb_usize_saturating_add; law vstd_integers/Unsigned.saturating_add_kept; pinned by
-/// vstd_integers/Pinned.pinned_unsigned; refused unsigned8_sums/saturating_add.first_summand, wraps_to_0.
+/// vstd_integers/Pinned.pinned_unsigned; refused unsigned_sums/saturating_add.first_summand, wraps_to_0.
 #[inline]
 #[must_use]
 pub fn saturating_add(x: usize, y: usize) -> usize {
@@ -314,7 +313,7 @@ pub fn saturating_add(x: usize, y: usize) -> usize {
 ///
 /// Cited by rows A17; clause vstd_integers/Unsigned.saturating_sub; contract
 /// promisebook_usize::pb_usize_saturating_sub; law vstd_integers/Unsigned.saturating_sub_kept; pinned by
-/// vstd_integers/Pinned.pinned_unsigned; refused unsigned8_sums/saturating_sub.other_side, stops_at_1,
+/// vstd_integers/Pinned.pinned_unsigned; refused unsigned_sums/saturating_sub.other_side, stops_at_1,
 /// promisebook_u8/saturating_sub.wraps.
 #[inline]
 #[must_use]
@@ -333,7 +332,7 @@ pub fn saturating_sub(x: usize, y: usize) -> usize {
 ///
 /// Cited by rows A18; clause vstd_integers/Unsigned.saturating_mul; contract
 /// promisebook_usize::pb_usize_saturating_mul; law vstd_integers/Unsigned.saturating_mul_kept; pinned by
-/// vstd_integers/Pinned.pinned_unsigned; refused unsigned8_sums/saturating_mul.square, wraps_to_0,
+/// vstd_integers/Pinned.pinned_unsigned; refused unsigned_sums/saturating_mul.square, wraps_to_0,
 /// vstd_integers/saturating_mul.wraps.
 #[inline]
 #[must_use]
@@ -353,7 +352,7 @@ pub fn saturating_mul(x: usize, y: usize) -> usize {
 ///
 /// Cited by rows A19; clause vstd_integers/Unsigned.is_multiple_of; contract
 /// promisebook_usize::pb_usize_is_multiple_of; law vstd_integers/Unsigned.is_multiple_of_kept; pinned by
-/// vstd_integers/Pinned.pinned_equation; refused unsigned8_division/is_multiple_of.all_of_zero, remainder_of_1,
+/// vstd_integers/Pinned.pinned_equation; refused unsigned_division/is_multiple_of.all_of_zero, remainder_of_1,
 /// vstd_integers/is_multiple_of.all_of_zero.
 #[inline]
 #[must_use]
@@ -498,8 +497,8 @@ pub fn ge(x: usize, y: usize) -> bool {
 ///
 /// Cited by rows A38; clause vstd_integers/Compare.cmp; contract promisebook_usize::pb_usize_cmp; law
 /// vstd_integers/Compare.cmp_kept; pinned by vstd_integers/Pinned.pinned_equation; refused
-/// ordering/number.greater_is_0, less_is_1, unsigned8_order/compare.equal_is_greater, less_is_greater,
-/// signed8_order/compare.equal_is_greater, less_is_greater.
+/// ordering/number.greater_is_0, less_is_1, unsigned_order/compare.equal_is_greater, less_is_greater,
+/// signed_order/compare.equal_is_greater, less_is_greater.
 #[inline]
 #[must_use]
 pub fn cmp(x: usize, y: usize) -> Ordering {
