@@ -5,7 +5,9 @@ import re
 
 ROOT = os.path.dirname(os.path.dirname(os.path.abspath(__file__)))
 FOREIGN = {"io", "libc", "os"}  # the kit's libraries of foreign functions
-STD = re.compile(r"\bstd\s*::|\bHostRuntime\b|\bprintln!")  # what a crate's text has that calls Rattle's own standard library, which stands on those
+# What a crate's text has that calls what stands on those. The traits of operators and comparisons, ranges and orderings do not; nor does what needs no path,
+# such as an Option's or a slice's own functions: that a static library reaches no axiom through any of it, its check says.
+STD = re.compile(r"\bstd\s*::\s*(?!(?:ops|cmp)\s*::)|\bHostRuntime\b|\bprintln!")
 
 
 def parsed(text):
@@ -49,13 +51,13 @@ def code(crate):
 
 
 def reaching(crates):
-    """The crates that call the standard library, or stand on what does."""
+    """The crates that call what stands on foreign functions, or stand on what does."""
     own = {crate for crate in crates if STD.search(code(crate)) or FOREIGN & set(crates[crate])}
     return {crate for crate in crates if crate in own or own & below(crate, crates)}
 
 
 def libraries(crates):
-    """The crates that are no program and call nothing of the standard library, directly or through others."""
+    """The crates that are no program and call nothing that stands on foreign functions, directly or through others."""
     beyond = {*reaching(crates), *programs(crates)}
     return [crate for crate in crates if crate not in beyond]
 

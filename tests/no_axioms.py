@@ -4,7 +4,7 @@
     python3 tests/no_axioms.py LOG             exit status 1, and a line for each fault
     python3 tests/no_axioms.py LOG CRATE..     the same question of these crates, say of a program, of which the answer is that it does
 
-A library crate is no program and calls nothing of Rattle's standard library, which stands on foreign functions, directly or through others: each crate that
+A library crate is no program and calls nothing of Rattle's standard library that stands on foreign functions, directly or through others: each crate that
 crates.txt lists above the programs is one. LOG is what `rt ci` or `rt check` said. Where it has the verdict on a crate, that is read: the line
 `logic=proved ..`, which has `foreign=` where the crate declares functions that are not proved and `axioms=` where the check of a program or a static library
 reached any, and lines `axioms LIBRARY: ..`, which name them. Of a crate whose proof rt had kept of the same files, it says only that: so the text of each crate
@@ -54,7 +54,7 @@ def main():
             faults.append("%s: it was not proved here: the log has no verdict" % crate)
         faults += ["%s: its check names %s" % (crate, name) for name in said.get(crate, [])]
         faults += ["%s: its text declares what is not proved: %s" % (crate, name) for name in declared(crate)]
-        faults += ["%s: it stands on %s, which calls the standard library" % (crate, name) for name in sorted(reaching & ({crate} | below(crate, crates)))]
+        faults += ["%s: it stands on %s, which calls what stands on foreign functions" % (crate, name) for name in sorted(reaching & ({crate} | below(crate, crates)))]
     if not sys.argv[2:]:
         programs = listed.programs(crates)
         if any(crate in said for crate in programs) and not any(said.get(crate) for crate in programs):

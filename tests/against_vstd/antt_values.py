@@ -139,7 +139,7 @@ class Definitions:
 
     def constructor(self, module, name):
         home = self.home(module, name)
-        return home.constructors.get(name) if home else None
+        return home.constructors.get(name) if home else kit.VARIANTS.get(name) if name in module.imports else None
 
     def function(self, module, name):
         """A definition, a record of facts among them, as a function of Python."""

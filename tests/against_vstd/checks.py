@@ -5,7 +5,7 @@ from typing import Any, NamedTuple
 from faults import Fault, LeftOpen
 
 
-REFUSED = ("refused",)
+REFUSED = ("None",)
 
 
 class Difference(NamedTuple):
@@ -34,7 +34,7 @@ def answer(value):
     if isinstance(value, int):
         return str(value)
     if value and isinstance(value[0], str):
-        return str(value[1]) if len(value) == 2 else value[0].lower()
+        return str(value[1]) if len(value) == 2 else "refused" if value == REFUSED else value[0].lower()
     return bytes(value).hex() or "-"
 
 
@@ -51,11 +51,7 @@ def value_or_open(function, *given):
         return "leaves it open: %s" % why
 
 
-# An answer as vstd has it: where its result is an Option, `refused` is None and another is Some; where it requires something, the value of an answer stands for it.
-def as_option(ours):
-    return ("None",) if ours == REFUSED else ("Some", *ours[1:])
-
-
+# An answer as vstd has it: an Option as it is; where it requires something, the value of an answer stands for it.
 def value_of(ours):
     return ours[1] if len(ours) == 2 and isinstance(ours[0], str) else ours
 
@@ -70,7 +66,7 @@ class Check:
     def __init__(self, item, clauses, arguments):
         self.item, self.clauses, self.arguments, self.tried, self.compared = item, clauses, arguments, 0, 0
         of_option = item.result is not None and isinstance(item.result[1], tuple) and item.result[1][0] == "Option"
-        self.said = as_option if of_option else value_of if item.requires else itself
+        self.said = value_of if item.requires and not of_option else itself
 
     def differences(self, questions=None):
         raise NotImplementedError

@@ -46,10 +46,14 @@ NAMES = {
     # lists
     "[]": (0, "()"), "◌∷◌": (2, "(({0},) + {1})"), "◌++◌": (2, "({0} + {1})"), "length": (1, "len({0})"), "get_or": (3, "element({0}, {1}, {2})"),
     "take": (2, "{1}[:{0}]"), "drop": (2, "{1}[{0}:]"),
+    # an Option, and an Ordering: what they are made of
+    "None": (0, '("None",)'), "Some": (1, '("Some", {0})'), "Less": (0, '("Less",)'), "Equal": (0, '("Equal",)'), "Greater": (0, '("Greater",)'),
     # propositions
     "⊥": (0, "False"), "Unit": (0, "True"), "◌≡◌": (2, "({0} == {1})"), "◌≤◌": (2, "({0} <= {1})"), "◌<◌": (2, "({0} < {1})"),
     "◌×◌": (2, "({0} and {1})"), "◌⊎◌": (2, "({0} or {1})"), "◌↔◌": (2, "({0} == {1})"),
 }
+# of these, what patterns may name
+VARIANTS = {name: NAMES[name][0] for name in ("None", "Some", "Less", "Equal", "Greater")}
 # known to the language, without a line that imports them
 BUILT_IN = ("⊥", "Unit", "◌×◌")
 MODULES = ("Rattle.std.specs.",)
