@@ -251,7 +251,7 @@ def check_pinned(row, library):
 
 
 ROW_CHECKS = [check_shape, check_items, check_verdict, check_names, check_law, check_export, check_pinned]
-NAMES_IN_WORDS = re.compile(r"(?<![\w/.:-])(?:(kit|[a-z]\w*)/([A-Z]\w*)\.([^\s,;:()`|]*[^\s,;:.()`|])|(\w+)::(\w+)|(pb_\w+))(?![\w{])")
+NAMES_IN_WORDS = re.compile(r"(?<![\w/.:-])(?:(kit|[a-z]\w*)/([A-Z]\w*)\.([^\s,;:()`|]*[^\s,;:.()`|])|(\w+)::(\w+(?:::\w+)?)|(pb_\w+))(?![\w{])")
 
 
 def check_words(text, library):
@@ -298,13 +298,13 @@ def check_findings(text, library):
 
 
 def check_glossary(text, library):
-    """A word of the glossary has a meaning, and names, in its last cell, what exists: a definition, a law or a must-fail edit."""
+    """A word of the glossary has a meaning, and names, in its last cell, what exists: a definition, a law, a function or a must-fail edit."""
     for word, meaning, names in re.findall(r"^\| ([^|]*) \| ([^|]*) \| ([^|]*) \|$", text, re.M):
         named_there = re.findall(r"`([^`]*)`", names)
         if word not in ("word", "---") and not (meaning.strip() and named_there):
             yield "the word %s has no meaning, or names nothing" % word
         for name in named_there:
-            if not library.exists(name) and name not in library.edits:
+            if not library.exists(name) and name not in library.edits and name not in library.functions:
                 yield "the word %s names %s, which does not exist" % (word, name)
 
 
@@ -337,9 +337,9 @@ DAMAGES = [
     ("A", "restated: vstd_integers/Unsigned.wrapping_sub\n", "restated: vstd_integers/Unsigned.wrapping_add\n", "nothing restated stands in the contract of pb_u8_wrapping_sub"),
     ("A", "law: vstd_integers/Unsigned.wrapping_sub_kept", "law: vstd_integers/Unsigned.wrapping_sub_holds", "which does not exist"),
     ("A", "law: vstd_integers/Unsigned.wrapping_sub_kept", "law: vstd_integers/Unsigned.wrapping_sub", "which is a definition"),
-    ("A", "operation: unsignedN_sums::wrapping_sub\n", "operation: unsignedN_sums::saturating_sub\n", "no law of it names what stands in the contract"),
-    ("A", "operation: unsignedN_sums::wrapping_sub\n", "operation: unsignedN_sums::wrapping_less\n", "which is no public function"),
-    ("A", "operation: unsignedN_sums::wrapping_sub\n", "operation: unsignedN_sums::wrapping_add\n", "pb_u8_wrapping_sub calls none of"),
+    ("A", "operation: unsigned_sums::wrapping_sub\n", "operation: unsigned_sums::saturating_sub\n", "no law of it names what stands in the contract"),
+    ("A", "operation: unsigned_sums::wrapping_sub\n", "operation: unsigned_sums::wrapping_less\n", "which is no public function"),
+    ("A", "operation: unsigned_sums::wrapping_sub\n", "operation: unsigned_sums::wrapping_add\n", "pb_u8_wrapping_sub calls none of"),
     ("A", "export: pb_uN_wrapping_sub\n", "export: pb_uN_wrapping_less\n", "which is no public function"),
     ("A", "export: pb_uN_wrapping_sub\n", "export: pb_u{8,16,32,64}_wrapping_sub\n", "no row names the function pb_usize_wrapping_sub"),
     ("A", "item: std_specs/num u::wrapping_sub\n", "item: std_specs/num u::wrapping_less\n", "vstd has no item"),
@@ -352,8 +352,8 @@ DAMAGES = [
     ("A", "verdict: same\n", "verdict: same: by and large\n", "has a reason"),
     ("A", "verdict: same\n", "verdict: stronger\n", "has no reason"),
     ("A", "verdict: same\n", "verdict: left out: for now\n", "it is left out and names a function"),
-    ("A", "wrong: unsigned8_sums/wrapping_sub: one_too_many", "wrong: unsigned16_sums/wrapping_sub: one_too_many", "no must-fail edit unsigned16_sums/wrapping_sub.one_too_many"),
-    ("A", "wrong: unsigned8_sums/wrapping_sub: one_too_many, ", "wrong: unsigned8_sums/wrapping_sub: ", "no row names the must-fail edit unsigned8_sums/wrapping_sub.one_too_many"),
+    ("A", "wrong: unsigned_sums/wrapping_sub: one_too_many", "wrong: unsigned_bits/wrapping_sub: one_too_many", "no must-fail edit unsigned_bits/wrapping_sub.one_too_many"),
+    ("A", "wrong: unsigned_sums/wrapping_sub: one_too_many, ", "wrong: unsigned_sums/wrapping_sub: ", "no row names the must-fail edit unsigned_sums/wrapping_sub.one_too_many"),
     ("A", "clause: the product modulo 2^w\n", "clause: %s\n" % ("the product modulo 2^w " * 6), "more than"),
     ("A", "clause: the product modulo 2^w\nrestated: vstd_integers/Unsigned.wrapping_mul\n", "restated: vstd_integers/Unsigned.wrapping_mul\nclause: the product modulo 2^w\n", "not in the order"),
     ("A", "theory_whole/Order.numbered)", "theory_whole/Order.counted)", "theory_whole/Order.counted does not exist"),

@@ -35,6 +35,7 @@ VSTD_FILES = [
     "wrapping",
 ]
 MEANINGS = "M"  # the letter of what our definitions mean, whose file has none
+OF_ALL_WIDTHS = re.compile(r"(?<![A-Za-z])(u|i)N(?![A-Za-z])")
 
 
 class Row(dict):
@@ -82,7 +83,7 @@ def commas(text):
 
 
 def expand(name):
-    """u{8,16}::x is u8::x and u16::x, x ({1..3}) is x, x (2) and x (3); uN, iN, unsignedN and signedN are all widths, <R as the six range types."""
+    """u{8,16}::x is u8::x and u16::x, x ({1..3}) is x, x (2) and x (3); uN and iN are all widths, <R as the six range types."""
     if name.startswith("<R as "):
         return ["<%s as %s" % (kind, name[len("<R as ") :]) for kind in RANGES]
     braces = re.search(r"\{([^{}]*)\}", name)
@@ -90,14 +91,9 @@ def expand(name):
         numbers = re.match(r"(\d+)\.\.(\d+)$", braces.group(1))
         choices = range(int(numbers.group(1)), int(numbers.group(2)) + 1) if numbers else braces.group(1).split(",")
         return [whole for choice in choices for whole in expand(name[: braces.start()] + str(choice).strip() + name[braces.end() :])]
-    if re.search(r"(?<![A-Za-z])(?:u|i|unsigned|signed)N(?![A-Za-z])", name):
-        return [of_width(name, width) for width in WIDTHS]
+    if OF_ALL_WIDTHS.search(name):
+        return [OF_ALL_WIDTHS.sub(r"\g<1>" + width.suffix, name) for width in WIDTHS]
     return [name]
-
-
-def of_width(name, width):
-    name = re.sub(r"(?<![A-Za-z])(u|i)N(?![A-Za-z])", r"\g<1>" + width.suffix, name)
-    return re.sub(r"(?<![A-Za-z])(unsigned|signed)N(?![A-Za-z])", r"\g<1>" + width.crate, name)
 
 
 def items(row):

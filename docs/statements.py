@@ -1,6 +1,7 @@
 """Reads what the library says: the statements of laws and definitions (crates/*/specs, crates/*/proofs), the contracts of functions (crates/*/src) and the
 names of must-fail edits. A law or a definition is named by the crate and the file it stands in, vstd_slices/Kept.get_kept; a function by its crate,
-slices::get, an exported one by its name alone, pb_bytes_get; an edit by its crate, slices/get.one_past_the_end. Names of the kit's libraries begin with kit/."""
+slices::get, one of a trait by that, too, integers::Signed::bits, an exported one by its name alone, pb_bytes_get; an edit by its crate,
+slices/get.one_past_the_end. Names of the kit's libraries begin with kit/."""
 import collections
 import glob
 import os
@@ -153,14 +154,14 @@ def kit(name):
         return True
     root = os.path.dirname(os.path.dirname(os.path.realpath(rt)))
     file, name = name[len("kit/") :].split(".", 1)
-    places = [os.path.join(root, "rattle", "logic", "*", file + ".antt"), os.path.join(root, "rattle", "antt", "lib", "**", file + ".antt")]
+    places = [os.path.join(root, "rattle", *folder, file + ".antt") for folder in (("logic", "*"), ("antt", "lib", "**"), ("core", "specs"), ("std", "specs"))]
     declared = re.compile(r"^ *(?:unfoldable |abbrev )*(?:pub )?(?:unfoldable |abbrev )*(?:data |record )?%s(?: [({].*)? :" % re.escape(name), re.M)
     found = [path for place in places for path in glob.glob(place, recursive=True)]
     return file == "Nat" and name in BUILT_IN or any(declared.search(read(path)) for path in found)
 
 
 def functions(programs):
-    """The public functions of all crates but the programs: {name: Function}."""
+    """The public functions of all crates but the programs, and those that public traits ask for: {name: Function}."""
     found = {}
     for path in sorted(glob.glob(os.path.join(ROOT, "crates", "*", "src", "*.rt"))):
         crate = path.split(os.sep)[-3]
@@ -168,9 +169,15 @@ def functions(programs):
             continue
         text = read(path)
         meaning = meanings(crate, "", text, [])
-        for exported, name, rest, body in re.findall(r"^pub (extern \"C\" )?fn (\w+)(.*?)^\{(.*?)^\}", text, re.M | re.S):
-            contract = rest[rest.find("ensures") :] if "ensures" in rest else ""
-            found[name if exported else crate + "::" + name] = Function(names_in(contract, meaning), bool(exported), set(re.findall(r"\w+::\w+(?=\()", body)))
+
+        def contract(head):
+            return names_in(head[head.find("ensures") :] if "ensures" in head else "", meaning)
+
+        for exported, name, head, body in re.findall(r"^pub (extern \"C\" )?fn (\w+)(.*?)^\{(.*?)^\}", text, re.M | re.S):
+            found[name if exported else crate + "::" + name] = Function(contract(head), bool(exported), set(re.findall(r"(\w+::\w+)(?:::<[^()]*>)?\(", body)))
+        for trait, members in re.findall(r"^pub trait (\w+)(.*?)^\}", text, re.M | re.S):
+            for name, head in re.findall(r"^    fn (\w+)(.*?);$", members, re.M | re.S):
+                found["%s::%s::%s" % (crate, trait, name)] = Function(contract(head), False, set())
     return found
 
 
