@@ -28,7 +28,7 @@
 #define PB_VERSION_PATCH 0
 #define PB_VERSION "0.2.0"
 
-#define PB_STACK_BYTES 2168
+#define PB_STACK_BYTES 2184
 
 #ifdef __cplusplus
 extern "C" {
@@ -138,118 +138,117 @@ const char *pb_version(void);
 /* The sum `x + y`, wrapped: the unsigned number of 8 bits that differs from it by a multiple of 2^8.
    Cited by rows A1; clause vstd_integers/Unsigned.wrapping_add; contract promisebook_u8::pb_u8_wrapping_add; law
    vstd_integers/Unsigned.wrapping_add_kept; pinned by vstd_integers/Pinned.pinned_unsigned; refused
-   unsigned8_sums/wrapping_add.one_too_few, sum_of_255_wraps. */
+   unsigned_sums/wrapping_add.one_too_few, sum_of_255_wraps. */
 uint8_t pb_u8_wrapping_add(uint8_t x, uint8_t y);
 
 /* The sum `x + y`, wrapped: the unsigned number of 8 bits that differs from it by a multiple of 2^8.
    Cited by rows A2; clause vstd_integers/Unsigned.wrapping_add_signed; contract
    promisebook_u8::pb_u8_wrapping_add_signed; law vstd_integers/Unsigned.wrapping_add_signed_kept; pinned by
-   vstd_integers/Pinned.pinned_unsigned; refused unsigned8_sums/wrapping_add_signed.other_summand, subtracts. */
+   vstd_integers/Pinned.pinned_unsigned; refused signed_sums/wrapping_add_signed.other_summand, subtracts. */
 uint8_t pb_u8_wrapping_add_signed(uint8_t x, int8_t y);
 
 /* The difference `x - y`, wrapped: the unsigned number of 8 bits that differs from it by a multiple of 2^8.
    Cited by rows A3; clause vstd_integers/Unsigned.wrapping_sub; contract promisebook_u8::pb_u8_wrapping_sub; law
    vstd_integers/Unsigned.wrapping_sub_kept; pinned by vstd_integers/Pinned.pinned_unsigned; refused
-   unsigned8_sums/wrapping_sub.one_too_many, zero_borrows. */
+   unsigned_sums/wrapping_sub.one_too_many, zero_borrows. */
 uint8_t pb_u8_wrapping_sub(uint8_t x, uint8_t y);
 
 /* The product `x * y`, wrapped: the unsigned number of 8 bits that differs from it by a multiple of 2^8.
    Cited by rows A4; clause vstd_integers/Unsigned.wrapping_mul; contract promisebook_u8::pb_u8_wrapping_mul; law
    vstd_integers/Unsigned.wrapping_mul_kept; pinned by vstd_integers/Pinned.pinned_unsigned; refused
-   unsigned8_sums/wrapping_mul.modulo_255, square. */
+   unsigned_sums/wrapping_mul.square, integers/wrapping_mul.modulo_255. */
 uint8_t pb_u8_wrapping_mul(uint8_t x, uint8_t y);
 
 /* `x` shifted to the left by `rhs` modulo 8: zeros come in, and what leaves the 8 bits is lost.
    Cited by rows A5; clause vstd_integers/Unsigned.wrapping_shl; contract promisebook_u8::pb_u8_wrapping_shl; law
    vstd_integers/Unsigned.wrapping_shl_kept; pinned by vstd_integers/Pinned.pinned_unsigned; refused
-   unsigned8_bits/wrapping_shl.by_the_width_is_0, modulo_7. */
+   unsigned_bits/wrapping_shl.by_the_width_is_0, modulo_7. */
 uint8_t pb_u8_wrapping_shl(uint8_t x, uint32_t rhs);
 
 /* `x` shifted to the right by `rhs` modulo 8: zeros come in.
    Cited by rows A6; clause vstd_integers/Unsigned.wrapping_shr; contract promisebook_u8::pb_u8_wrapping_shr; law
    vstd_integers/Unsigned.wrapping_shr_kept; pinned by vstd_integers/Pinned.pinned_unsigned; refused
-   unsigned8_bits/wrapping_shr.by_the_width_is_0, modulo_7. */
+   unsigned_bits/wrapping_shr.by_the_width_is_0, modulo_7. */
 uint8_t pb_u8_wrapping_shr(uint8_t x, uint32_t rhs);
 
 /* The sum `x + y`. Refused where it is not from 0 to 255.
    Cited by rows A7; clause vstd_integers/Unsigned.checked_add; contract promisebook_u8::pb_u8_checked_add; law
    vstd_integers/Unsigned.checked_add_kept; pinned by vstd_integers/Pinned.pinned_unsigned_option; refused
-   unsigned8_sums/checked_add.second_summand_alone, sum_of_255_refused, vstd_integers/checked_add.largest_refused. */
+   unsigned_sums/checked_add.second_summand_alone, sum_of_255_refused, vstd_integers/checked_add.largest_refused. */
 pb_answer_u8 pb_u8_checked_add(uint8_t x, uint8_t y);
 
 /* The sum `x + y`. Refused where it is not from 0 to 255.
    Cited by rows A8; clause vstd_integers/Unsigned.checked_add_signed; contract
    promisebook_u8::pb_u8_checked_add_signed; law vstd_integers/Unsigned.checked_add_signed_kept; pinned by
-   vstd_integers/Pinned.pinned_unsigned_option; refused unsigned8_sums/checked_add_signed.first_summand,
-   other_side. */
+   vstd_integers/Pinned.pinned_unsigned_option; refused signed_sums/checked_add_signed.first_summand, other_side. */
 pb_answer_u8 pb_u8_checked_add_signed(uint8_t x, int8_t y);
 
 /* The difference `x - y`. Refused where it is not from 0 to 255.
    Cited by rows A9; clause vstd_integers/Unsigned.checked_sub; contract promisebook_u8::pb_u8_checked_sub; law
    vstd_integers/Unsigned.checked_sub_kept; pinned by vstd_integers/Pinned.pinned_unsigned_option; refused
-   unsigned8_sums/checked_sub.nothing_taken, other_way_round. */
+   unsigned_sums/checked_sub.nothing_taken, other_way_round. */
 pb_answer_u8 pb_u8_checked_sub(uint8_t x, uint8_t y);
 
 /* The product `x * y`. Refused where it is not from 0 to 255.
    Cited by rows A10; clause vstd_integers/Unsigned.checked_mul; contract promisebook_u8::pb_u8_checked_mul; law
    vstd_integers/Unsigned.checked_mul_kept; pinned by vstd_integers/Pinned.pinned_unsigned_option; refused
-   unsigned8_sums/checked_mul.larger_quotient_taken, square. */
+   unsigned_sums/checked_mul.larger_quotient_taken, square. */
 pb_answer_u8 pb_u8_checked_mul(uint8_t x, uint8_t y);
 
 /* The smallest multiple of `y` that is at least `x`. Refused where `y` is 0 or the multiple is above 255.
    Cited by rows A11; clause vstd_integers/Unsigned.checked_next_multiple_of; contract
    promisebook_u8::pb_u8_checked_next_multiple_of; law vstd_integers/Unsigned.checked_next_multiple_of_kept;
    pinned by vstd_integers/Pinned.pinned_unsigned_option; refused
-   unsigned8_division/checked_next_multiple_of.always_a_multiple, first_multiple,
+   unsigned_division/checked_next_multiple_of.always_a_multiple, first_multiple,
    vstd_integers/checked_next_multiple_of.zero_not_refused, promisebook_u8/checked_next_multiple_of.nine_bits. */
 pb_answer_u8 pb_u8_checked_next_multiple_of(uint8_t x, uint8_t y);
 
 /* The quotient of `x` by `y`, rounded towards zero. Refused where `y` is 0.
    Cited by rows A12; clause vstd_integers/Unsigned.checked_div; contract promisebook_u8::pb_u8_checked_div; law
    vstd_integers/Unsigned.checked_div_kept; pinned by vstd_integers/Pinned.pinned_unsigned_option; refused
-   unsigned8_division/checked_div.by_zero_is_0, other_dividend. */
+   unsigned_division/checked_div.by_zero_is_0, other_dividend. */
 pb_answer_u8 pb_u8_checked_div(uint8_t x, uint8_t y);
 
 /* The quotient of `x` by `y` whose remainder is not negative. Refused where `y` is 0.
    Cited by rows A13; clause vstd_integers/Unsigned.checked_div; contract promisebook_u8::pb_u8_checked_div_euclid;
    law vstd_integers/Unsigned.checked_div_euclid_kept; pinned by vstd_integers/Pinned.pinned_unsigned_option;
-   refused unsigned8_division/checked_div_euclid.by_zero_is_0, other_way_round. */
+   refused unsigned_division/checked_div_euclid.by_zero_is_0, other_way_round. */
 pb_answer_u8 pb_u8_checked_div_euclid(uint8_t x, uint8_t y);
 
 /* The remainder of `x` by `y`. Refused where `y` is 0.
    Cited by rows A14; clause vstd_integers/Unsigned.checked_rem; contract promisebook_u8::pb_u8_checked_rem; law
    vstd_integers/Unsigned.checked_rem_kept; pinned by vstd_integers/Pinned.pinned_unsigned_option; refused
-   unsigned8_division/checked_rem.by_zero_is_dividend, other_dividend. */
+   unsigned_division/checked_rem.by_zero_is_dividend, other_dividend. */
 pb_answer_u8 pb_u8_checked_rem(uint8_t x, uint8_t y);
 
 /* The remainder of `x` by `y` that is not negative. Refused where `y` is 0.
    Cited by rows A15; clause vstd_integers/Unsigned.checked_rem; contract promisebook_u8::pb_u8_checked_rem_euclid;
    law vstd_integers/Unsigned.checked_rem_euclid_kept; pinned by vstd_integers/Pinned.pinned_unsigned_option;
-   refused unsigned8_division/checked_rem_euclid.by_zero_is_dividend, other_way_round. */
+   refused unsigned_division/checked_rem_euclid.by_zero_is_dividend, other_way_round. */
 pb_answer_u8 pb_u8_checked_rem_euclid(uint8_t x, uint8_t y);
 
 /* The sum `x + y`, or 255 where it is larger.
    Cited by rows A16; clause vstd_integers/Unsigned.saturating_add; contract promisebook_u8::pb_u8_saturating_add;
    law vstd_integers/Unsigned.saturating_add_kept; pinned by vstd_integers/Pinned.pinned_unsigned; refused
-   unsigned8_sums/saturating_add.first_summand, wraps_to_0. */
+   unsigned_sums/saturating_add.first_summand, wraps_to_0. */
 uint8_t pb_u8_saturating_add(uint8_t x, uint8_t y);
 
 /* The difference `x - y`, or 0 where it is below that.
    Cited by rows A17; clause vstd_integers/Unsigned.saturating_sub; contract promisebook_u8::pb_u8_saturating_sub;
    law vstd_integers/Unsigned.saturating_sub_kept; pinned by vstd_integers/Pinned.pinned_unsigned; refused
-   unsigned8_sums/saturating_sub.other_side, stops_at_1, promisebook_u8/saturating_sub.wraps. */
+   unsigned_sums/saturating_sub.other_side, stops_at_1, promisebook_u8/saturating_sub.wraps. */
 uint8_t pb_u8_saturating_sub(uint8_t x, uint8_t y);
 
 /* The product `x * y`, or 255 where it is larger.
    Cited by rows A18; clause vstd_integers/Unsigned.saturating_mul; contract promisebook_u8::pb_u8_saturating_mul;
    law vstd_integers/Unsigned.saturating_mul_kept; pinned by vstd_integers/Pinned.pinned_unsigned; refused
-   unsigned8_sums/saturating_mul.square, wraps_to_0, vstd_integers/saturating_mul.wraps. */
+   unsigned_sums/saturating_mul.square, wraps_to_0, vstd_integers/saturating_mul.wraps. */
 uint8_t pb_u8_saturating_mul(uint8_t x, uint8_t y);
 
 /* Whether `x` is a multiple of `y`; of 0 only 0 is.
    Cited by rows A19; clause vstd_integers/Unsigned.is_multiple_of; contract promisebook_u8::pb_u8_is_multiple_of;
    law vstd_integers/Unsigned.is_multiple_of_kept; pinned by vstd_integers/Pinned.pinned_equation; refused
-   unsigned8_division/is_multiple_of.all_of_zero, remainder_of_1, vstd_integers/is_multiple_of.all_of_zero. */
+   unsigned_division/is_multiple_of.all_of_zero, remainder_of_1, vstd_integers/is_multiple_of.all_of_zero. */
 bool pb_u8_is_multiple_of(uint8_t x, uint8_t y);
 
 /* `x` itself.
@@ -297,8 +296,8 @@ bool pb_u8_ge(uint8_t x, uint8_t y);
 /* How `x` stands to `y`: less (-1), equal (0) or greater (1).
    Cited by rows A38; clause vstd_integers/Compare.cmp; contract promisebook_u8::pb_u8_cmp; law
    vstd_integers/Compare.cmp_kept; pinned by vstd_integers/Pinned.pinned_equation; refused
-   ordering/number.greater_is_0, less_is_1, unsigned8_order/compare.equal_is_greater, less_is_greater,
-   signed8_order/compare.equal_is_greater, less_is_greater. */
+   ordering/number.greater_is_0, less_is_1, unsigned_order/compare.equal_is_greater, less_is_greater,
+   signed_order/compare.equal_is_greater, less_is_greater. */
 int8_t pb_u8_cmp(uint8_t x, uint8_t y);
 
 /* How `x` stands to `y`: less (-1), equal (0) or greater (1). Never refused.
@@ -354,118 +353,117 @@ pb_answer_usize pb_u8_write_decimal(uint8_t x, uint8_t *s, size_t s_len, size_t 
 /* The sum `x + y`, wrapped: the unsigned number of 16 bits that differs from it by a multiple of 2^16.
    Cited by rows A1; clause vstd_integers/Unsigned.wrapping_add; contract promisebook_u16::pb_u16_wrapping_add; law
    vstd_integers/Unsigned.wrapping_add_kept; pinned by vstd_integers/Pinned.pinned_unsigned; refused
-   unsigned8_sums/wrapping_add.one_too_few, sum_of_255_wraps. */
+   unsigned_sums/wrapping_add.one_too_few, sum_of_255_wraps. */
 uint16_t pb_u16_wrapping_add(uint16_t x, uint16_t y);
 
 /* The sum `x + y`, wrapped: the unsigned number of 16 bits that differs from it by a multiple of 2^16.
    Cited by rows A2; clause vstd_integers/Unsigned.wrapping_add_signed; contract
    promisebook_u16::pb_u16_wrapping_add_signed; law vstd_integers/Unsigned.wrapping_add_signed_kept; pinned by
-   vstd_integers/Pinned.pinned_unsigned; refused unsigned8_sums/wrapping_add_signed.other_summand, subtracts. */
+   vstd_integers/Pinned.pinned_unsigned; refused signed_sums/wrapping_add_signed.other_summand, subtracts. */
 uint16_t pb_u16_wrapping_add_signed(uint16_t x, int16_t y);
 
 /* The difference `x - y`, wrapped: the unsigned number of 16 bits that differs from it by a multiple of 2^16.
    Cited by rows A3; clause vstd_integers/Unsigned.wrapping_sub; contract promisebook_u16::pb_u16_wrapping_sub; law
    vstd_integers/Unsigned.wrapping_sub_kept; pinned by vstd_integers/Pinned.pinned_unsigned; refused
-   unsigned8_sums/wrapping_sub.one_too_many, zero_borrows. */
+   unsigned_sums/wrapping_sub.one_too_many, zero_borrows. */
 uint16_t pb_u16_wrapping_sub(uint16_t x, uint16_t y);
 
 /* The product `x * y`, wrapped: the unsigned number of 16 bits that differs from it by a multiple of 2^16.
    Cited by rows A4; clause vstd_integers/Unsigned.wrapping_mul; contract promisebook_u16::pb_u16_wrapping_mul; law
    vstd_integers/Unsigned.wrapping_mul_kept; pinned by vstd_integers/Pinned.pinned_unsigned; refused
-   unsigned8_sums/wrapping_mul.modulo_255, square. */
+   unsigned_sums/wrapping_mul.square, integers/wrapping_mul.modulo_255. */
 uint16_t pb_u16_wrapping_mul(uint16_t x, uint16_t y);
 
 /* `x` shifted to the left by `rhs` modulo 16: zeros come in, and what leaves the 16 bits is lost.
    Cited by rows A5; clause vstd_integers/Unsigned.wrapping_shl; contract promisebook_u16::pb_u16_wrapping_shl; law
    vstd_integers/Unsigned.wrapping_shl_kept; pinned by vstd_integers/Pinned.pinned_unsigned; refused
-   unsigned8_bits/wrapping_shl.by_the_width_is_0, modulo_7. */
+   unsigned_bits/wrapping_shl.by_the_width_is_0, modulo_7. */
 uint16_t pb_u16_wrapping_shl(uint16_t x, uint32_t rhs);
 
 /* `x` shifted to the right by `rhs` modulo 16: zeros come in.
    Cited by rows A6; clause vstd_integers/Unsigned.wrapping_shr; contract promisebook_u16::pb_u16_wrapping_shr; law
    vstd_integers/Unsigned.wrapping_shr_kept; pinned by vstd_integers/Pinned.pinned_unsigned; refused
-   unsigned8_bits/wrapping_shr.by_the_width_is_0, modulo_7. */
+   unsigned_bits/wrapping_shr.by_the_width_is_0, modulo_7. */
 uint16_t pb_u16_wrapping_shr(uint16_t x, uint32_t rhs);
 
 /* The sum `x + y`. Refused where it is not from 0 to 65535.
    Cited by rows A7; clause vstd_integers/Unsigned.checked_add; contract promisebook_u16::pb_u16_checked_add; law
    vstd_integers/Unsigned.checked_add_kept; pinned by vstd_integers/Pinned.pinned_unsigned_option; refused
-   unsigned8_sums/checked_add.second_summand_alone, sum_of_255_refused, vstd_integers/checked_add.largest_refused. */
+   unsigned_sums/checked_add.second_summand_alone, sum_of_255_refused, vstd_integers/checked_add.largest_refused. */
 pb_answer_u16 pb_u16_checked_add(uint16_t x, uint16_t y);
 
 /* The sum `x + y`. Refused where it is not from 0 to 65535.
    Cited by rows A8; clause vstd_integers/Unsigned.checked_add_signed; contract
    promisebook_u16::pb_u16_checked_add_signed; law vstd_integers/Unsigned.checked_add_signed_kept; pinned by
-   vstd_integers/Pinned.pinned_unsigned_option; refused unsigned8_sums/checked_add_signed.first_summand,
-   other_side. */
+   vstd_integers/Pinned.pinned_unsigned_option; refused signed_sums/checked_add_signed.first_summand, other_side. */
 pb_answer_u16 pb_u16_checked_add_signed(uint16_t x, int16_t y);
 
 /* The difference `x - y`. Refused where it is not from 0 to 65535.
    Cited by rows A9; clause vstd_integers/Unsigned.checked_sub; contract promisebook_u16::pb_u16_checked_sub; law
    vstd_integers/Unsigned.checked_sub_kept; pinned by vstd_integers/Pinned.pinned_unsigned_option; refused
-   unsigned8_sums/checked_sub.nothing_taken, other_way_round. */
+   unsigned_sums/checked_sub.nothing_taken, other_way_round. */
 pb_answer_u16 pb_u16_checked_sub(uint16_t x, uint16_t y);
 
 /* The product `x * y`. Refused where it is not from 0 to 65535.
    Cited by rows A10; clause vstd_integers/Unsigned.checked_mul; contract promisebook_u16::pb_u16_checked_mul; law
    vstd_integers/Unsigned.checked_mul_kept; pinned by vstd_integers/Pinned.pinned_unsigned_option; refused
-   unsigned8_sums/checked_mul.larger_quotient_taken, square. */
+   unsigned_sums/checked_mul.larger_quotient_taken, square. */
 pb_answer_u16 pb_u16_checked_mul(uint16_t x, uint16_t y);
 
 /* The smallest multiple of `y` that is at least `x`. Refused where `y` is 0 or the multiple is above 65535.
    Cited by rows A11; clause vstd_integers/Unsigned.checked_next_multiple_of; contract
    promisebook_u16::pb_u16_checked_next_multiple_of; law vstd_integers/Unsigned.checked_next_multiple_of_kept;
    pinned by vstd_integers/Pinned.pinned_unsigned_option; refused
-   unsigned8_division/checked_next_multiple_of.always_a_multiple, first_multiple,
+   unsigned_division/checked_next_multiple_of.always_a_multiple, first_multiple,
    vstd_integers/checked_next_multiple_of.zero_not_refused, promisebook_u8/checked_next_multiple_of.nine_bits. */
 pb_answer_u16 pb_u16_checked_next_multiple_of(uint16_t x, uint16_t y);
 
 /* The quotient of `x` by `y`, rounded towards zero. Refused where `y` is 0.
    Cited by rows A12; clause vstd_integers/Unsigned.checked_div; contract promisebook_u16::pb_u16_checked_div; law
    vstd_integers/Unsigned.checked_div_kept; pinned by vstd_integers/Pinned.pinned_unsigned_option; refused
-   unsigned8_division/checked_div.by_zero_is_0, other_dividend. */
+   unsigned_division/checked_div.by_zero_is_0, other_dividend. */
 pb_answer_u16 pb_u16_checked_div(uint16_t x, uint16_t y);
 
 /* The quotient of `x` by `y` whose remainder is not negative. Refused where `y` is 0.
    Cited by rows A13; clause vstd_integers/Unsigned.checked_div; contract promisebook_u16::pb_u16_checked_div_euclid;
    law vstd_integers/Unsigned.checked_div_euclid_kept; pinned by vstd_integers/Pinned.pinned_unsigned_option;
-   refused unsigned8_division/checked_div_euclid.by_zero_is_0, other_way_round. */
+   refused unsigned_division/checked_div_euclid.by_zero_is_0, other_way_round. */
 pb_answer_u16 pb_u16_checked_div_euclid(uint16_t x, uint16_t y);
 
 /* The remainder of `x` by `y`. Refused where `y` is 0.
    Cited by rows A14; clause vstd_integers/Unsigned.checked_rem; contract promisebook_u16::pb_u16_checked_rem; law
    vstd_integers/Unsigned.checked_rem_kept; pinned by vstd_integers/Pinned.pinned_unsigned_option; refused
-   unsigned8_division/checked_rem.by_zero_is_dividend, other_dividend. */
+   unsigned_division/checked_rem.by_zero_is_dividend, other_dividend. */
 pb_answer_u16 pb_u16_checked_rem(uint16_t x, uint16_t y);
 
 /* The remainder of `x` by `y` that is not negative. Refused where `y` is 0.
    Cited by rows A15; clause vstd_integers/Unsigned.checked_rem; contract promisebook_u16::pb_u16_checked_rem_euclid;
    law vstd_integers/Unsigned.checked_rem_euclid_kept; pinned by vstd_integers/Pinned.pinned_unsigned_option;
-   refused unsigned8_division/checked_rem_euclid.by_zero_is_dividend, other_way_round. */
+   refused unsigned_division/checked_rem_euclid.by_zero_is_dividend, other_way_round. */
 pb_answer_u16 pb_u16_checked_rem_euclid(uint16_t x, uint16_t y);
 
 /* The sum `x + y`, or 65535 where it is larger.
    Cited by rows A16; clause vstd_integers/Unsigned.saturating_add; contract promisebook_u16::pb_u16_saturating_add;
    law vstd_integers/Unsigned.saturating_add_kept; pinned by vstd_integers/Pinned.pinned_unsigned; refused
-   unsigned8_sums/saturating_add.first_summand, wraps_to_0. */
+   unsigned_sums/saturating_add.first_summand, wraps_to_0. */
 uint16_t pb_u16_saturating_add(uint16_t x, uint16_t y);
 
 /* The difference `x - y`, or 0 where it is below that.
    Cited by rows A17; clause vstd_integers/Unsigned.saturating_sub; contract promisebook_u16::pb_u16_saturating_sub;
    law vstd_integers/Unsigned.saturating_sub_kept; pinned by vstd_integers/Pinned.pinned_unsigned; refused
-   unsigned8_sums/saturating_sub.other_side, stops_at_1, promisebook_u8/saturating_sub.wraps. */
+   unsigned_sums/saturating_sub.other_side, stops_at_1, promisebook_u8/saturating_sub.wraps. */
 uint16_t pb_u16_saturating_sub(uint16_t x, uint16_t y);
 
 /* The product `x * y`, or 65535 where it is larger.
    Cited by rows A18; clause vstd_integers/Unsigned.saturating_mul; contract promisebook_u16::pb_u16_saturating_mul;
    law vstd_integers/Unsigned.saturating_mul_kept; pinned by vstd_integers/Pinned.pinned_unsigned; refused
-   unsigned8_sums/saturating_mul.square, wraps_to_0, vstd_integers/saturating_mul.wraps. */
+   unsigned_sums/saturating_mul.square, wraps_to_0, vstd_integers/saturating_mul.wraps. */
 uint16_t pb_u16_saturating_mul(uint16_t x, uint16_t y);
 
 /* Whether `x` is a multiple of `y`; of 0 only 0 is.
    Cited by rows A19; clause vstd_integers/Unsigned.is_multiple_of; contract promisebook_u16::pb_u16_is_multiple_of;
    law vstd_integers/Unsigned.is_multiple_of_kept; pinned by vstd_integers/Pinned.pinned_equation; refused
-   unsigned8_division/is_multiple_of.all_of_zero, remainder_of_1, vstd_integers/is_multiple_of.all_of_zero. */
+   unsigned_division/is_multiple_of.all_of_zero, remainder_of_1, vstd_integers/is_multiple_of.all_of_zero. */
 bool pb_u16_is_multiple_of(uint16_t x, uint16_t y);
 
 /* `x` itself.
@@ -513,8 +511,8 @@ bool pb_u16_ge(uint16_t x, uint16_t y);
 /* How `x` stands to `y`: less (-1), equal (0) or greater (1).
    Cited by rows A38; clause vstd_integers/Compare.cmp; contract promisebook_u16::pb_u16_cmp; law
    vstd_integers/Compare.cmp_kept; pinned by vstd_integers/Pinned.pinned_equation; refused
-   ordering/number.greater_is_0, less_is_1, unsigned8_order/compare.equal_is_greater, less_is_greater,
-   signed8_order/compare.equal_is_greater, less_is_greater. */
+   ordering/number.greater_is_0, less_is_1, unsigned_order/compare.equal_is_greater, less_is_greater,
+   signed_order/compare.equal_is_greater, less_is_greater. */
 int8_t pb_u16_cmp(uint16_t x, uint16_t y);
 
 /* How `x` stands to `y`: less (-1), equal (0) or greater (1). Never refused.
@@ -550,8 +548,8 @@ uint32_t pb_u16_trailing_ones(uint16_t i);
 /* The number whose 2 bytes are `s`, lowest first. Refused where `s` has another length.
    Cited by rows C1, C2; clause vstd_number_bytes/Bytes.from_le_bytes, spec_from_le_bytes; contract
    promisebook_number_bytes::pb_u16_from_le_bytes; law vstd_number_bytes/Bytes.from_le_bytes_kept; pinned by
-   vstd_integers/Pinned.pinned_unsigned_option; refused number_bytes16/from_le_bytes.two_bytes_for_three,
-   vstd_number_bytes/from_le_bytes.any_length, one_byte_fewer, number_bytes16/from_le_bytes.highest_first,
+   vstd_integers/Pinned.pinned_unsigned_option; refused number_bytes/from_le_bytes.two_bytes_for_three,
+   vstd_number_bytes/from_le_bytes.any_length, one_byte_fewer, number_bytes/from_le_bytes.highest_first,
    vstd_number_bytes/from_le_bytes.first_byte_last. */
 pb_answer_u16 pb_u16_from_le_bytes(const uint8_t *s, size_t s_len);
 
@@ -559,15 +557,15 @@ pb_answer_u16 pb_u16_from_le_bytes(const uint8_t *s, size_t s_len);
    they do not fit there.
    Cited by rows C3; clause vstd_number_bytes/Bytes.spec_to_le_bytes; contract
    promisebook_number_bytes::pb_u16_to_le_bytes; law vstd_number_bytes/Bytes.to_le_bytes_is; pinned by
-   theory_lists/Written.pinned_writes; refused number_bytes16/to_le_bytes.highest_first, lowest_twice,
-   number_bytes16/write_le_bytes.elsewhere, one_place_too_far, byte_behind_changes,
+   theory_lists/Written.pinned_writes; refused number_bytes/to_le_bytes.highest_first, lowest_twice,
+   number_bytes/write_le_bytes.elsewhere, one_place_too_far, byte_behind_changes,
    vstd_number_bytes/to_le_bytes.lowest_byte_only, seven_bits, promisebook_number_bytes/to_le_bytes.four_bytes. */
 bool pb_u16_to_le_bytes(uint16_t x, uint8_t *s, size_t s_len, size_t at);
 
 /* The number whose 2 bytes are `s`, highest first. Refused where `s` has another length.
    Cited by rows C67; clause theory_digits/Number.number_high; contract
    promisebook_number_bytes::pb_u16_from_be_bytes; law theory_digits/Reading.number_high_of_digits_high; pinned by
-   vstd_integers/Pinned.pinned_unsigned_option; refused number_bytes16/from_be_bytes.lowest_first,
+   vstd_integers/Pinned.pinned_unsigned_option; refused number_bytes/from_be_bytes.lowest_first,
    two_bytes_for_one. */
 pb_answer_u16 pb_u16_from_be_bytes(const uint8_t *s, size_t s_len);
 
@@ -575,7 +573,7 @@ pb_answer_u16 pb_u16_from_be_bytes(const uint8_t *s, size_t s_len);
    they do not fit there.
    Cited by rows C68; clause theory_digits/Digits.digits_high; contract promisebook_number_bytes::pb_u16_to_be_bytes;
    law theory_digits/Reading.digits_high_of_number_high; pinned by theory_lists/Written.pinned_writes; refused
-   number_bytes16/to_be_bytes.highest_twice, lowest_first, number_bytes16/write_be_bytes.complement,
+   number_bytes/to_be_bytes.highest_twice, lowest_first, number_bytes/write_be_bytes.complement,
    last_place_is_refused, byte_changes_twice, promisebook_number_bytes/to_be_bytes.lowest_first. */
 bool pb_u16_to_be_bytes(uint16_t x, uint8_t *s, size_t s_len, size_t at);
 
@@ -602,118 +600,117 @@ pb_answer_usize pb_u16_write_decimal(uint16_t x, uint8_t *s, size_t s_len, size_
 /* The sum `x + y`, wrapped: the unsigned number of 32 bits that differs from it by a multiple of 2^32.
    Cited by rows A1; clause vstd_integers/Unsigned.wrapping_add; contract promisebook_u32::pb_u32_wrapping_add; law
    vstd_integers/Unsigned.wrapping_add_kept; pinned by vstd_integers/Pinned.pinned_unsigned; refused
-   unsigned8_sums/wrapping_add.one_too_few, sum_of_255_wraps. */
+   unsigned_sums/wrapping_add.one_too_few, sum_of_255_wraps. */
 uint32_t pb_u32_wrapping_add(uint32_t x, uint32_t y);
 
 /* The sum `x + y`, wrapped: the unsigned number of 32 bits that differs from it by a multiple of 2^32.
    Cited by rows A2; clause vstd_integers/Unsigned.wrapping_add_signed; contract
    promisebook_u32::pb_u32_wrapping_add_signed; law vstd_integers/Unsigned.wrapping_add_signed_kept; pinned by
-   vstd_integers/Pinned.pinned_unsigned; refused unsigned8_sums/wrapping_add_signed.other_summand, subtracts. */
+   vstd_integers/Pinned.pinned_unsigned; refused signed_sums/wrapping_add_signed.other_summand, subtracts. */
 uint32_t pb_u32_wrapping_add_signed(uint32_t x, int32_t y);
 
 /* The difference `x - y`, wrapped: the unsigned number of 32 bits that differs from it by a multiple of 2^32.
    Cited by rows A3; clause vstd_integers/Unsigned.wrapping_sub; contract promisebook_u32::pb_u32_wrapping_sub; law
    vstd_integers/Unsigned.wrapping_sub_kept; pinned by vstd_integers/Pinned.pinned_unsigned; refused
-   unsigned8_sums/wrapping_sub.one_too_many, zero_borrows. */
+   unsigned_sums/wrapping_sub.one_too_many, zero_borrows. */
 uint32_t pb_u32_wrapping_sub(uint32_t x, uint32_t y);
 
 /* The product `x * y`, wrapped: the unsigned number of 32 bits that differs from it by a multiple of 2^32.
    Cited by rows A4; clause vstd_integers/Unsigned.wrapping_mul; contract promisebook_u32::pb_u32_wrapping_mul; law
    vstd_integers/Unsigned.wrapping_mul_kept; pinned by vstd_integers/Pinned.pinned_unsigned; refused
-   unsigned8_sums/wrapping_mul.modulo_255, square. */
+   unsigned_sums/wrapping_mul.square, integers/wrapping_mul.modulo_255. */
 uint32_t pb_u32_wrapping_mul(uint32_t x, uint32_t y);
 
 /* `x` shifted to the left by `rhs` modulo 32: zeros come in, and what leaves the 32 bits is lost.
    Cited by rows A5; clause vstd_integers/Unsigned.wrapping_shl; contract promisebook_u32::pb_u32_wrapping_shl; law
    vstd_integers/Unsigned.wrapping_shl_kept; pinned by vstd_integers/Pinned.pinned_unsigned; refused
-   unsigned8_bits/wrapping_shl.by_the_width_is_0, modulo_7. */
+   unsigned_bits/wrapping_shl.by_the_width_is_0, modulo_7. */
 uint32_t pb_u32_wrapping_shl(uint32_t x, uint32_t rhs);
 
 /* `x` shifted to the right by `rhs` modulo 32: zeros come in.
    Cited by rows A6; clause vstd_integers/Unsigned.wrapping_shr; contract promisebook_u32::pb_u32_wrapping_shr; law
    vstd_integers/Unsigned.wrapping_shr_kept; pinned by vstd_integers/Pinned.pinned_unsigned; refused
-   unsigned8_bits/wrapping_shr.by_the_width_is_0, modulo_7. */
+   unsigned_bits/wrapping_shr.by_the_width_is_0, modulo_7. */
 uint32_t pb_u32_wrapping_shr(uint32_t x, uint32_t rhs);
 
 /* The sum `x + y`. Refused where it is not from 0 to 4294967295.
    Cited by rows A7; clause vstd_integers/Unsigned.checked_add; contract promisebook_u32::pb_u32_checked_add; law
    vstd_integers/Unsigned.checked_add_kept; pinned by vstd_integers/Pinned.pinned_unsigned_option; refused
-   unsigned8_sums/checked_add.second_summand_alone, sum_of_255_refused, vstd_integers/checked_add.largest_refused. */
+   unsigned_sums/checked_add.second_summand_alone, sum_of_255_refused, vstd_integers/checked_add.largest_refused. */
 pb_answer_u32 pb_u32_checked_add(uint32_t x, uint32_t y);
 
 /* The sum `x + y`. Refused where it is not from 0 to 4294967295.
    Cited by rows A8; clause vstd_integers/Unsigned.checked_add_signed; contract
    promisebook_u32::pb_u32_checked_add_signed; law vstd_integers/Unsigned.checked_add_signed_kept; pinned by
-   vstd_integers/Pinned.pinned_unsigned_option; refused unsigned8_sums/checked_add_signed.first_summand,
-   other_side. */
+   vstd_integers/Pinned.pinned_unsigned_option; refused signed_sums/checked_add_signed.first_summand, other_side. */
 pb_answer_u32 pb_u32_checked_add_signed(uint32_t x, int32_t y);
 
 /* The difference `x - y`. Refused where it is not from 0 to 4294967295.
    Cited by rows A9; clause vstd_integers/Unsigned.checked_sub; contract promisebook_u32::pb_u32_checked_sub; law
    vstd_integers/Unsigned.checked_sub_kept; pinned by vstd_integers/Pinned.pinned_unsigned_option; refused
-   unsigned8_sums/checked_sub.nothing_taken, other_way_round. */
+   unsigned_sums/checked_sub.nothing_taken, other_way_round. */
 pb_answer_u32 pb_u32_checked_sub(uint32_t x, uint32_t y);
 
 /* The product `x * y`. Refused where it is not from 0 to 4294967295.
    Cited by rows A10; clause vstd_integers/Unsigned.checked_mul; contract promisebook_u32::pb_u32_checked_mul; law
    vstd_integers/Unsigned.checked_mul_kept; pinned by vstd_integers/Pinned.pinned_unsigned_option; refused
-   unsigned8_sums/checked_mul.larger_quotient_taken, square. */
+   unsigned_sums/checked_mul.larger_quotient_taken, square. */
 pb_answer_u32 pb_u32_checked_mul(uint32_t x, uint32_t y);
 
 /* The smallest multiple of `y` that is at least `x`. Refused where `y` is 0 or the multiple is above 4294967295.
    Cited by rows A11; clause vstd_integers/Unsigned.checked_next_multiple_of; contract
    promisebook_u32::pb_u32_checked_next_multiple_of; law vstd_integers/Unsigned.checked_next_multiple_of_kept;
    pinned by vstd_integers/Pinned.pinned_unsigned_option; refused
-   unsigned8_division/checked_next_multiple_of.always_a_multiple, first_multiple,
+   unsigned_division/checked_next_multiple_of.always_a_multiple, first_multiple,
    vstd_integers/checked_next_multiple_of.zero_not_refused, promisebook_u8/checked_next_multiple_of.nine_bits. */
 pb_answer_u32 pb_u32_checked_next_multiple_of(uint32_t x, uint32_t y);
 
 /* The quotient of `x` by `y`, rounded towards zero. Refused where `y` is 0.
    Cited by rows A12; clause vstd_integers/Unsigned.checked_div; contract promisebook_u32::pb_u32_checked_div; law
    vstd_integers/Unsigned.checked_div_kept; pinned by vstd_integers/Pinned.pinned_unsigned_option; refused
-   unsigned8_division/checked_div.by_zero_is_0, other_dividend. */
+   unsigned_division/checked_div.by_zero_is_0, other_dividend. */
 pb_answer_u32 pb_u32_checked_div(uint32_t x, uint32_t y);
 
 /* The quotient of `x` by `y` whose remainder is not negative. Refused where `y` is 0.
    Cited by rows A13; clause vstd_integers/Unsigned.checked_div; contract promisebook_u32::pb_u32_checked_div_euclid;
    law vstd_integers/Unsigned.checked_div_euclid_kept; pinned by vstd_integers/Pinned.pinned_unsigned_option;
-   refused unsigned8_division/checked_div_euclid.by_zero_is_0, other_way_round. */
+   refused unsigned_division/checked_div_euclid.by_zero_is_0, other_way_round. */
 pb_answer_u32 pb_u32_checked_div_euclid(uint32_t x, uint32_t y);
 
 /* The remainder of `x` by `y`. Refused where `y` is 0.
    Cited by rows A14; clause vstd_integers/Unsigned.checked_rem; contract promisebook_u32::pb_u32_checked_rem; law
    vstd_integers/Unsigned.checked_rem_kept; pinned by vstd_integers/Pinned.pinned_unsigned_option; refused
-   unsigned8_division/checked_rem.by_zero_is_dividend, other_dividend. */
+   unsigned_division/checked_rem.by_zero_is_dividend, other_dividend. */
 pb_answer_u32 pb_u32_checked_rem(uint32_t x, uint32_t y);
 
 /* The remainder of `x` by `y` that is not negative. Refused where `y` is 0.
    Cited by rows A15; clause vstd_integers/Unsigned.checked_rem; contract promisebook_u32::pb_u32_checked_rem_euclid;
    law vstd_integers/Unsigned.checked_rem_euclid_kept; pinned by vstd_integers/Pinned.pinned_unsigned_option;
-   refused unsigned8_division/checked_rem_euclid.by_zero_is_dividend, other_way_round. */
+   refused unsigned_division/checked_rem_euclid.by_zero_is_dividend, other_way_round. */
 pb_answer_u32 pb_u32_checked_rem_euclid(uint32_t x, uint32_t y);
 
 /* The sum `x + y`, or 4294967295 where it is larger.
    Cited by rows A16; clause vstd_integers/Unsigned.saturating_add; contract promisebook_u32::pb_u32_saturating_add;
    law vstd_integers/Unsigned.saturating_add_kept; pinned by vstd_integers/Pinned.pinned_unsigned; refused
-   unsigned8_sums/saturating_add.first_summand, wraps_to_0. */
+   unsigned_sums/saturating_add.first_summand, wraps_to_0. */
 uint32_t pb_u32_saturating_add(uint32_t x, uint32_t y);
 
 /* The difference `x - y`, or 0 where it is below that.
    Cited by rows A17; clause vstd_integers/Unsigned.saturating_sub; contract promisebook_u32::pb_u32_saturating_sub;
    law vstd_integers/Unsigned.saturating_sub_kept; pinned by vstd_integers/Pinned.pinned_unsigned; refused
-   unsigned8_sums/saturating_sub.other_side, stops_at_1, promisebook_u8/saturating_sub.wraps. */
+   unsigned_sums/saturating_sub.other_side, stops_at_1, promisebook_u8/saturating_sub.wraps. */
 uint32_t pb_u32_saturating_sub(uint32_t x, uint32_t y);
 
 /* The product `x * y`, or 4294967295 where it is larger.
    Cited by rows A18; clause vstd_integers/Unsigned.saturating_mul; contract promisebook_u32::pb_u32_saturating_mul;
    law vstd_integers/Unsigned.saturating_mul_kept; pinned by vstd_integers/Pinned.pinned_unsigned; refused
-   unsigned8_sums/saturating_mul.square, wraps_to_0, vstd_integers/saturating_mul.wraps. */
+   unsigned_sums/saturating_mul.square, wraps_to_0, vstd_integers/saturating_mul.wraps. */
 uint32_t pb_u32_saturating_mul(uint32_t x, uint32_t y);
 
 /* Whether `x` is a multiple of `y`; of 0 only 0 is.
    Cited by rows A19; clause vstd_integers/Unsigned.is_multiple_of; contract promisebook_u32::pb_u32_is_multiple_of;
    law vstd_integers/Unsigned.is_multiple_of_kept; pinned by vstd_integers/Pinned.pinned_equation; refused
-   unsigned8_division/is_multiple_of.all_of_zero, remainder_of_1, vstd_integers/is_multiple_of.all_of_zero. */
+   unsigned_division/is_multiple_of.all_of_zero, remainder_of_1, vstd_integers/is_multiple_of.all_of_zero. */
 bool pb_u32_is_multiple_of(uint32_t x, uint32_t y);
 
 /* `x` itself.
@@ -761,8 +758,8 @@ bool pb_u32_ge(uint32_t x, uint32_t y);
 /* How `x` stands to `y`: less (-1), equal (0) or greater (1).
    Cited by rows A38; clause vstd_integers/Compare.cmp; contract promisebook_u32::pb_u32_cmp; law
    vstd_integers/Compare.cmp_kept; pinned by vstd_integers/Pinned.pinned_equation; refused
-   ordering/number.greater_is_0, less_is_1, unsigned8_order/compare.equal_is_greater, less_is_greater,
-   signed8_order/compare.equal_is_greater, less_is_greater. */
+   ordering/number.greater_is_0, less_is_1, unsigned_order/compare.equal_is_greater, less_is_greater,
+   signed_order/compare.equal_is_greater, less_is_greater. */
 int8_t pb_u32_cmp(uint32_t x, uint32_t y);
 
 /* How `x` stands to `y`: less (-1), equal (0) or greater (1). Never refused.
@@ -798,8 +795,8 @@ uint32_t pb_u32_trailing_ones(uint32_t i);
 /* The number whose 4 bytes are `s`, lowest first. Refused where `s` has another length.
    Cited by rows C1, C2; clause vstd_number_bytes/Bytes.from_le_bytes, spec_from_le_bytes; contract
    promisebook_number_bytes::pb_u32_from_le_bytes; law vstd_number_bytes/Bytes.from_le_bytes_kept; pinned by
-   vstd_integers/Pinned.pinned_unsigned_option; refused number_bytes16/from_le_bytes.two_bytes_for_three,
-   vstd_number_bytes/from_le_bytes.any_length, one_byte_fewer, number_bytes16/from_le_bytes.highest_first,
+   vstd_integers/Pinned.pinned_unsigned_option; refused number_bytes/from_le_bytes.two_bytes_for_three,
+   vstd_number_bytes/from_le_bytes.any_length, one_byte_fewer, number_bytes/from_le_bytes.highest_first,
    vstd_number_bytes/from_le_bytes.first_byte_last. */
 pb_answer_u32 pb_u32_from_le_bytes(const uint8_t *s, size_t s_len);
 
@@ -807,15 +804,15 @@ pb_answer_u32 pb_u32_from_le_bytes(const uint8_t *s, size_t s_len);
    they do not fit there.
    Cited by rows C3; clause vstd_number_bytes/Bytes.spec_to_le_bytes; contract
    promisebook_number_bytes::pb_u32_to_le_bytes; law vstd_number_bytes/Bytes.to_le_bytes_is; pinned by
-   theory_lists/Written.pinned_writes; refused number_bytes16/to_le_bytes.highest_first, lowest_twice,
-   number_bytes16/write_le_bytes.elsewhere, one_place_too_far, byte_behind_changes,
+   theory_lists/Written.pinned_writes; refused number_bytes/to_le_bytes.highest_first, lowest_twice,
+   number_bytes/write_le_bytes.elsewhere, one_place_too_far, byte_behind_changes,
    vstd_number_bytes/to_le_bytes.lowest_byte_only, seven_bits, promisebook_number_bytes/to_le_bytes.four_bytes. */
 bool pb_u32_to_le_bytes(uint32_t x, uint8_t *s, size_t s_len, size_t at);
 
 /* The number whose 4 bytes are `s`, highest first. Refused where `s` has another length.
    Cited by rows C67; clause theory_digits/Number.number_high; contract
    promisebook_number_bytes::pb_u32_from_be_bytes; law theory_digits/Reading.number_high_of_digits_high; pinned by
-   vstd_integers/Pinned.pinned_unsigned_option; refused number_bytes16/from_be_bytes.lowest_first,
+   vstd_integers/Pinned.pinned_unsigned_option; refused number_bytes/from_be_bytes.lowest_first,
    two_bytes_for_one. */
 pb_answer_u32 pb_u32_from_be_bytes(const uint8_t *s, size_t s_len);
 
@@ -823,7 +820,7 @@ pb_answer_u32 pb_u32_from_be_bytes(const uint8_t *s, size_t s_len);
    they do not fit there.
    Cited by rows C68; clause theory_digits/Digits.digits_high; contract promisebook_number_bytes::pb_u32_to_be_bytes;
    law theory_digits/Reading.digits_high_of_number_high; pinned by theory_lists/Written.pinned_writes; refused
-   number_bytes16/to_be_bytes.highest_twice, lowest_first, number_bytes16/write_be_bytes.complement,
+   number_bytes/to_be_bytes.highest_twice, lowest_first, number_bytes/write_be_bytes.complement,
    last_place_is_refused, byte_changes_twice, promisebook_number_bytes/to_be_bytes.lowest_first. */
 bool pb_u32_to_be_bytes(uint32_t x, uint8_t *s, size_t s_len, size_t at);
 
@@ -850,62 +847,61 @@ pb_answer_usize pb_u32_write_decimal(uint32_t x, uint8_t *s, size_t s_len, size_
 /* The sum `x + y`, wrapped: the unsigned number of 64 bits that differs from it by a multiple of 2^64.
    Cited by rows A1; clause vstd_integers/Unsigned.wrapping_add; contract promisebook_u64::pb_u64_wrapping_add; law
    vstd_integers/Unsigned.wrapping_add_kept; pinned by vstd_integers/Pinned.pinned_unsigned; refused
-   unsigned8_sums/wrapping_add.one_too_few, sum_of_255_wraps. */
+   unsigned_sums/wrapping_add.one_too_few, sum_of_255_wraps. */
 uint64_t pb_u64_wrapping_add(uint64_t x, uint64_t y);
 
 /* The sum `x + y`, wrapped: the unsigned number of 64 bits that differs from it by a multiple of 2^64.
    Cited by rows A2; clause vstd_integers/Unsigned.wrapping_add_signed; contract
    promisebook_u64::pb_u64_wrapping_add_signed; law vstd_integers/Unsigned.wrapping_add_signed_kept; pinned by
-   vstd_integers/Pinned.pinned_unsigned; refused unsigned8_sums/wrapping_add_signed.other_summand, subtracts. */
+   vstd_integers/Pinned.pinned_unsigned; refused signed_sums/wrapping_add_signed.other_summand, subtracts. */
 uint64_t pb_u64_wrapping_add_signed(uint64_t x, int64_t y);
 
 /* The difference `x - y`, wrapped: the unsigned number of 64 bits that differs from it by a multiple of 2^64.
    Cited by rows A3; clause vstd_integers/Unsigned.wrapping_sub; contract promisebook_u64::pb_u64_wrapping_sub; law
    vstd_integers/Unsigned.wrapping_sub_kept; pinned by vstd_integers/Pinned.pinned_unsigned; refused
-   unsigned8_sums/wrapping_sub.one_too_many, zero_borrows. */
+   unsigned_sums/wrapping_sub.one_too_many, zero_borrows. */
 uint64_t pb_u64_wrapping_sub(uint64_t x, uint64_t y);
 
 /* The product `x * y`, wrapped: the unsigned number of 64 bits that differs from it by a multiple of 2^64.
    Cited by rows A4; clause vstd_integers/Unsigned.wrapping_mul; contract promisebook_u64::pb_u64_wrapping_mul; law
    vstd_integers/Unsigned.wrapping_mul_kept; pinned by vstd_integers/Pinned.pinned_unsigned; refused
-   unsigned8_sums/wrapping_mul.modulo_255, square. */
+   unsigned_sums/wrapping_mul.square, integers/wrapping_mul.modulo_255. */
 uint64_t pb_u64_wrapping_mul(uint64_t x, uint64_t y);
 
 /* `x` shifted to the left by `rhs` modulo 64: zeros come in, and what leaves the 64 bits is lost.
    Cited by rows A5; clause vstd_integers/Unsigned.wrapping_shl; contract promisebook_u64::pb_u64_wrapping_shl; law
    vstd_integers/Unsigned.wrapping_shl_kept; pinned by vstd_integers/Pinned.pinned_unsigned; refused
-   unsigned8_bits/wrapping_shl.by_the_width_is_0, modulo_7. */
+   unsigned_bits/wrapping_shl.by_the_width_is_0, modulo_7. */
 uint64_t pb_u64_wrapping_shl(uint64_t x, uint32_t rhs);
 
 /* `x` shifted to the right by `rhs` modulo 64: zeros come in.
    Cited by rows A6; clause vstd_integers/Unsigned.wrapping_shr; contract promisebook_u64::pb_u64_wrapping_shr; law
    vstd_integers/Unsigned.wrapping_shr_kept; pinned by vstd_integers/Pinned.pinned_unsigned; refused
-   unsigned8_bits/wrapping_shr.by_the_width_is_0, modulo_7. */
+   unsigned_bits/wrapping_shr.by_the_width_is_0, modulo_7. */
 uint64_t pb_u64_wrapping_shr(uint64_t x, uint32_t rhs);
 
 /* The sum `x + y`. Refused where it is not from 0 to 18446744073709551615.
    Cited by rows A7; clause vstd_integers/Unsigned.checked_add; contract promisebook_u64::pb_u64_checked_add; law
    vstd_integers/Unsigned.checked_add_kept; pinned by vstd_integers/Pinned.pinned_unsigned_option; refused
-   unsigned8_sums/checked_add.second_summand_alone, sum_of_255_refused, vstd_integers/checked_add.largest_refused. */
+   unsigned_sums/checked_add.second_summand_alone, sum_of_255_refused, vstd_integers/checked_add.largest_refused. */
 pb_answer_u64 pb_u64_checked_add(uint64_t x, uint64_t y);
 
 /* The sum `x + y`. Refused where it is not from 0 to 18446744073709551615.
    Cited by rows A8; clause vstd_integers/Unsigned.checked_add_signed; contract
    promisebook_u64::pb_u64_checked_add_signed; law vstd_integers/Unsigned.checked_add_signed_kept; pinned by
-   vstd_integers/Pinned.pinned_unsigned_option; refused unsigned8_sums/checked_add_signed.first_summand,
-   other_side. */
+   vstd_integers/Pinned.pinned_unsigned_option; refused signed_sums/checked_add_signed.first_summand, other_side. */
 pb_answer_u64 pb_u64_checked_add_signed(uint64_t x, int64_t y);
 
 /* The difference `x - y`. Refused where it is not from 0 to 18446744073709551615.
    Cited by rows A9; clause vstd_integers/Unsigned.checked_sub; contract promisebook_u64::pb_u64_checked_sub; law
    vstd_integers/Unsigned.checked_sub_kept; pinned by vstd_integers/Pinned.pinned_unsigned_option; refused
-   unsigned8_sums/checked_sub.nothing_taken, other_way_round. */
+   unsigned_sums/checked_sub.nothing_taken, other_way_round. */
 pb_answer_u64 pb_u64_checked_sub(uint64_t x, uint64_t y);
 
 /* The product `x * y`. Refused where it is not from 0 to 18446744073709551615.
    Cited by rows A10; clause vstd_integers/Unsigned.checked_mul; contract promisebook_u64::pb_u64_checked_mul; law
    vstd_integers/Unsigned.checked_mul_kept; pinned by vstd_integers/Pinned.pinned_unsigned_option; refused
-   unsigned8_sums/checked_mul.larger_quotient_taken, square. */
+   unsigned_sums/checked_mul.larger_quotient_taken, square. */
 pb_answer_u64 pb_u64_checked_mul(uint64_t x, uint64_t y);
 
 /* The smallest multiple of `y` that is at least `x`. Refused where `y` is 0 or the multiple is above
@@ -913,56 +909,56 @@ pb_answer_u64 pb_u64_checked_mul(uint64_t x, uint64_t y);
    Cited by rows A11; clause vstd_integers/Unsigned.checked_next_multiple_of; contract
    promisebook_u64::pb_u64_checked_next_multiple_of; law vstd_integers/Unsigned.checked_next_multiple_of_kept;
    pinned by vstd_integers/Pinned.pinned_unsigned_option; refused
-   unsigned8_division/checked_next_multiple_of.always_a_multiple, first_multiple,
+   unsigned_division/checked_next_multiple_of.always_a_multiple, first_multiple,
    vstd_integers/checked_next_multiple_of.zero_not_refused, promisebook_u8/checked_next_multiple_of.nine_bits. */
 pb_answer_u64 pb_u64_checked_next_multiple_of(uint64_t x, uint64_t y);
 
 /* The quotient of `x` by `y`, rounded towards zero. Refused where `y` is 0.
    Cited by rows A12; clause vstd_integers/Unsigned.checked_div; contract promisebook_u64::pb_u64_checked_div; law
    vstd_integers/Unsigned.checked_div_kept; pinned by vstd_integers/Pinned.pinned_unsigned_option; refused
-   unsigned8_division/checked_div.by_zero_is_0, other_dividend. */
+   unsigned_division/checked_div.by_zero_is_0, other_dividend. */
 pb_answer_u64 pb_u64_checked_div(uint64_t x, uint64_t y);
 
 /* The quotient of `x` by `y` whose remainder is not negative. Refused where `y` is 0.
    Cited by rows A13; clause vstd_integers/Unsigned.checked_div; contract promisebook_u64::pb_u64_checked_div_euclid;
    law vstd_integers/Unsigned.checked_div_euclid_kept; pinned by vstd_integers/Pinned.pinned_unsigned_option;
-   refused unsigned8_division/checked_div_euclid.by_zero_is_0, other_way_round. */
+   refused unsigned_division/checked_div_euclid.by_zero_is_0, other_way_round. */
 pb_answer_u64 pb_u64_checked_div_euclid(uint64_t x, uint64_t y);
 
 /* The remainder of `x` by `y`. Refused where `y` is 0.
    Cited by rows A14; clause vstd_integers/Unsigned.checked_rem; contract promisebook_u64::pb_u64_checked_rem; law
    vstd_integers/Unsigned.checked_rem_kept; pinned by vstd_integers/Pinned.pinned_unsigned_option; refused
-   unsigned8_division/checked_rem.by_zero_is_dividend, other_dividend. */
+   unsigned_division/checked_rem.by_zero_is_dividend, other_dividend. */
 pb_answer_u64 pb_u64_checked_rem(uint64_t x, uint64_t y);
 
 /* The remainder of `x` by `y` that is not negative. Refused where `y` is 0.
    Cited by rows A15; clause vstd_integers/Unsigned.checked_rem; contract promisebook_u64::pb_u64_checked_rem_euclid;
    law vstd_integers/Unsigned.checked_rem_euclid_kept; pinned by vstd_integers/Pinned.pinned_unsigned_option;
-   refused unsigned8_division/checked_rem_euclid.by_zero_is_dividend, other_way_round. */
+   refused unsigned_division/checked_rem_euclid.by_zero_is_dividend, other_way_round. */
 pb_answer_u64 pb_u64_checked_rem_euclid(uint64_t x, uint64_t y);
 
 /* The sum `x + y`, or 18446744073709551615 where it is larger.
    Cited by rows A16; clause vstd_integers/Unsigned.saturating_add; contract promisebook_u64::pb_u64_saturating_add;
    law vstd_integers/Unsigned.saturating_add_kept; pinned by vstd_integers/Pinned.pinned_unsigned; refused
-   unsigned8_sums/saturating_add.first_summand, wraps_to_0. */
+   unsigned_sums/saturating_add.first_summand, wraps_to_0. */
 uint64_t pb_u64_saturating_add(uint64_t x, uint64_t y);
 
 /* The difference `x - y`, or 0 where it is below that.
    Cited by rows A17; clause vstd_integers/Unsigned.saturating_sub; contract promisebook_u64::pb_u64_saturating_sub;
    law vstd_integers/Unsigned.saturating_sub_kept; pinned by vstd_integers/Pinned.pinned_unsigned; refused
-   unsigned8_sums/saturating_sub.other_side, stops_at_1, promisebook_u8/saturating_sub.wraps. */
+   unsigned_sums/saturating_sub.other_side, stops_at_1, promisebook_u8/saturating_sub.wraps. */
 uint64_t pb_u64_saturating_sub(uint64_t x, uint64_t y);
 
 /* The product `x * y`, or 18446744073709551615 where it is larger.
    Cited by rows A18; clause vstd_integers/Unsigned.saturating_mul; contract promisebook_u64::pb_u64_saturating_mul;
    law vstd_integers/Unsigned.saturating_mul_kept; pinned by vstd_integers/Pinned.pinned_unsigned; refused
-   unsigned8_sums/saturating_mul.square, wraps_to_0, vstd_integers/saturating_mul.wraps. */
+   unsigned_sums/saturating_mul.square, wraps_to_0, vstd_integers/saturating_mul.wraps. */
 uint64_t pb_u64_saturating_mul(uint64_t x, uint64_t y);
 
 /* Whether `x` is a multiple of `y`; of 0 only 0 is.
    Cited by rows A19; clause vstd_integers/Unsigned.is_multiple_of; contract promisebook_u64::pb_u64_is_multiple_of;
    law vstd_integers/Unsigned.is_multiple_of_kept; pinned by vstd_integers/Pinned.pinned_equation; refused
-   unsigned8_division/is_multiple_of.all_of_zero, remainder_of_1, vstd_integers/is_multiple_of.all_of_zero. */
+   unsigned_division/is_multiple_of.all_of_zero, remainder_of_1, vstd_integers/is_multiple_of.all_of_zero. */
 bool pb_u64_is_multiple_of(uint64_t x, uint64_t y);
 
 /* `x` itself.
@@ -1010,8 +1006,8 @@ bool pb_u64_ge(uint64_t x, uint64_t y);
 /* How `x` stands to `y`: less (-1), equal (0) or greater (1).
    Cited by rows A38; clause vstd_integers/Compare.cmp; contract promisebook_u64::pb_u64_cmp; law
    vstd_integers/Compare.cmp_kept; pinned by vstd_integers/Pinned.pinned_equation; refused
-   ordering/number.greater_is_0, less_is_1, unsigned8_order/compare.equal_is_greater, less_is_greater,
-   signed8_order/compare.equal_is_greater, less_is_greater. */
+   ordering/number.greater_is_0, less_is_1, unsigned_order/compare.equal_is_greater, less_is_greater,
+   signed_order/compare.equal_is_greater, less_is_greater. */
 int8_t pb_u64_cmp(uint64_t x, uint64_t y);
 
 /* How `x` stands to `y`: less (-1), equal (0) or greater (1). Never refused.
@@ -1047,8 +1043,8 @@ uint32_t pb_u64_trailing_ones(uint64_t i);
 /* The number whose 8 bytes are `s`, lowest first. Refused where `s` has another length.
    Cited by rows C1, C2; clause vstd_number_bytes/Bytes.from_le_bytes, spec_from_le_bytes; contract
    promisebook_number_bytes::pb_u64_from_le_bytes; law vstd_number_bytes/Bytes.from_le_bytes_kept; pinned by
-   vstd_integers/Pinned.pinned_unsigned_option; refused number_bytes16/from_le_bytes.two_bytes_for_three,
-   vstd_number_bytes/from_le_bytes.any_length, one_byte_fewer, number_bytes16/from_le_bytes.highest_first,
+   vstd_integers/Pinned.pinned_unsigned_option; refused number_bytes/from_le_bytes.two_bytes_for_three,
+   vstd_number_bytes/from_le_bytes.any_length, one_byte_fewer, number_bytes/from_le_bytes.highest_first,
    vstd_number_bytes/from_le_bytes.first_byte_last. */
 pb_answer_u64 pb_u64_from_le_bytes(const uint8_t *s, size_t s_len);
 
@@ -1056,15 +1052,15 @@ pb_answer_u64 pb_u64_from_le_bytes(const uint8_t *s, size_t s_len);
    they do not fit there.
    Cited by rows C3; clause vstd_number_bytes/Bytes.spec_to_le_bytes; contract
    promisebook_number_bytes::pb_u64_to_le_bytes; law vstd_number_bytes/Bytes.to_le_bytes_is; pinned by
-   theory_lists/Written.pinned_writes; refused number_bytes16/to_le_bytes.highest_first, lowest_twice,
-   number_bytes16/write_le_bytes.elsewhere, one_place_too_far, byte_behind_changes,
+   theory_lists/Written.pinned_writes; refused number_bytes/to_le_bytes.highest_first, lowest_twice,
+   number_bytes/write_le_bytes.elsewhere, one_place_too_far, byte_behind_changes,
    vstd_number_bytes/to_le_bytes.lowest_byte_only, seven_bits, promisebook_number_bytes/to_le_bytes.four_bytes. */
 bool pb_u64_to_le_bytes(uint64_t x, uint8_t *s, size_t s_len, size_t at);
 
 /* The number whose 8 bytes are `s`, highest first. Refused where `s` has another length.
    Cited by rows C67; clause theory_digits/Number.number_high; contract
    promisebook_number_bytes::pb_u64_from_be_bytes; law theory_digits/Reading.number_high_of_digits_high; pinned by
-   vstd_integers/Pinned.pinned_unsigned_option; refused number_bytes16/from_be_bytes.lowest_first,
+   vstd_integers/Pinned.pinned_unsigned_option; refused number_bytes/from_be_bytes.lowest_first,
    two_bytes_for_one. */
 pb_answer_u64 pb_u64_from_be_bytes(const uint8_t *s, size_t s_len);
 
@@ -1072,7 +1068,7 @@ pb_answer_u64 pb_u64_from_be_bytes(const uint8_t *s, size_t s_len);
    they do not fit there.
    Cited by rows C68; clause theory_digits/Digits.digits_high; contract promisebook_number_bytes::pb_u64_to_be_bytes;
    law theory_digits/Reading.digits_high_of_number_high; pinned by theory_lists/Written.pinned_writes; refused
-   number_bytes16/to_be_bytes.highest_twice, lowest_first, number_bytes16/write_be_bytes.complement,
+   number_bytes/to_be_bytes.highest_twice, lowest_first, number_bytes/write_be_bytes.complement,
    last_place_is_refused, byte_changes_twice, promisebook_number_bytes/to_be_bytes.lowest_first. */
 bool pb_u64_to_be_bytes(uint64_t x, uint8_t *s, size_t s_len, size_t at);
 
@@ -1099,62 +1095,61 @@ pb_answer_usize pb_u64_write_decimal(uint64_t x, uint8_t *s, size_t s_len, size_
 /* The sum `x + y`, wrapped: the unsigned number of 64 bits that differs from it by a multiple of 2^64.
    Cited by rows A1; clause vstd_integers/Unsigned.wrapping_add; contract promisebook_usize::pb_usize_wrapping_add;
    law vstd_integers/Unsigned.wrapping_add_kept; pinned by vstd_integers/Pinned.pinned_unsigned; refused
-   unsigned8_sums/wrapping_add.one_too_few, sum_of_255_wraps. */
+   unsigned_sums/wrapping_add.one_too_few, sum_of_255_wraps. */
 size_t pb_usize_wrapping_add(size_t x, size_t y);
 
 /* The sum `x + y`, wrapped: the unsigned number of 64 bits that differs from it by a multiple of 2^64.
    Cited by rows A2; clause vstd_integers/Unsigned.wrapping_add_signed; contract
    promisebook_usize::pb_usize_wrapping_add_signed; law vstd_integers/Unsigned.wrapping_add_signed_kept; pinned by
-   vstd_integers/Pinned.pinned_unsigned; refused unsigned8_sums/wrapping_add_signed.other_summand, subtracts. */
+   vstd_integers/Pinned.pinned_unsigned; refused signed_sums/wrapping_add_signed.other_summand, subtracts. */
 size_t pb_usize_wrapping_add_signed(size_t x, ptrdiff_t y);
 
 /* The difference `x - y`, wrapped: the unsigned number of 64 bits that differs from it by a multiple of 2^64.
    Cited by rows A3; clause vstd_integers/Unsigned.wrapping_sub; contract promisebook_usize::pb_usize_wrapping_sub;
    law vstd_integers/Unsigned.wrapping_sub_kept; pinned by vstd_integers/Pinned.pinned_unsigned; refused
-   unsigned8_sums/wrapping_sub.one_too_many, zero_borrows. */
+   unsigned_sums/wrapping_sub.one_too_many, zero_borrows. */
 size_t pb_usize_wrapping_sub(size_t x, size_t y);
 
 /* The product `x * y`, wrapped: the unsigned number of 64 bits that differs from it by a multiple of 2^64.
    Cited by rows A4; clause vstd_integers/Unsigned.wrapping_mul; contract promisebook_usize::pb_usize_wrapping_mul;
    law vstd_integers/Unsigned.wrapping_mul_kept; pinned by vstd_integers/Pinned.pinned_unsigned; refused
-   unsigned8_sums/wrapping_mul.modulo_255, square. */
+   unsigned_sums/wrapping_mul.square, integers/wrapping_mul.modulo_255. */
 size_t pb_usize_wrapping_mul(size_t x, size_t y);
 
 /* `x` shifted to the left by `rhs` modulo 64: zeros come in, and what leaves the 64 bits is lost.
    Cited by rows A5; clause vstd_integers/Unsigned.wrapping_shl; contract promisebook_usize::pb_usize_wrapping_shl;
    law vstd_integers/Unsigned.wrapping_shl_kept; pinned by vstd_integers/Pinned.pinned_unsigned; refused
-   unsigned8_bits/wrapping_shl.by_the_width_is_0, modulo_7. */
+   unsigned_bits/wrapping_shl.by_the_width_is_0, modulo_7. */
 size_t pb_usize_wrapping_shl(size_t x, uint32_t rhs);
 
 /* `x` shifted to the right by `rhs` modulo 64: zeros come in.
    Cited by rows A6; clause vstd_integers/Unsigned.wrapping_shr; contract promisebook_usize::pb_usize_wrapping_shr;
    law vstd_integers/Unsigned.wrapping_shr_kept; pinned by vstd_integers/Pinned.pinned_unsigned; refused
-   unsigned8_bits/wrapping_shr.by_the_width_is_0, modulo_7. */
+   unsigned_bits/wrapping_shr.by_the_width_is_0, modulo_7. */
 size_t pb_usize_wrapping_shr(size_t x, uint32_t rhs);
 
 /* The sum `x + y`. Refused where it is not from 0 to 18446744073709551615.
    Cited by rows A7; clause vstd_integers/Unsigned.checked_add; contract promisebook_usize::pb_usize_checked_add; law
    vstd_integers/Unsigned.checked_add_kept; pinned by vstd_integers/Pinned.pinned_unsigned_option; refused
-   unsigned8_sums/checked_add.second_summand_alone, sum_of_255_refused, vstd_integers/checked_add.largest_refused. */
+   unsigned_sums/checked_add.second_summand_alone, sum_of_255_refused, vstd_integers/checked_add.largest_refused. */
 pb_answer_usize pb_usize_checked_add(size_t x, size_t y);
 
 /* The sum `x + y`. Refused where it is not from 0 to 18446744073709551615.
    Cited by rows A8; clause vstd_integers/Unsigned.checked_add_signed; contract
    promisebook_usize::pb_usize_checked_add_signed; law vstd_integers/Unsigned.checked_add_signed_kept; pinned by
-   vstd_integers/Pinned.pinned_unsigned_option; refused unsigned8_sums/checked_add_signed.first_summand,
-   other_side. */
+   vstd_integers/Pinned.pinned_unsigned_option; refused signed_sums/checked_add_signed.first_summand, other_side. */
 pb_answer_usize pb_usize_checked_add_signed(size_t x, ptrdiff_t y);
 
 /* The difference `x - y`. Refused where it is not from 0 to 18446744073709551615.
    Cited by rows A9; clause vstd_integers/Unsigned.checked_sub; contract promisebook_usize::pb_usize_checked_sub; law
    vstd_integers/Unsigned.checked_sub_kept; pinned by vstd_integers/Pinned.pinned_unsigned_option; refused
-   unsigned8_sums/checked_sub.nothing_taken, other_way_round. */
+   unsigned_sums/checked_sub.nothing_taken, other_way_round. */
 pb_answer_usize pb_usize_checked_sub(size_t x, size_t y);
 
 /* The product `x * y`. Refused where it is not from 0 to 18446744073709551615.
    Cited by rows A10; clause vstd_integers/Unsigned.checked_mul; contract promisebook_usize::pb_usize_checked_mul;
    law vstd_integers/Unsigned.checked_mul_kept; pinned by vstd_integers/Pinned.pinned_unsigned_option; refused
-   unsigned8_sums/checked_mul.larger_quotient_taken, square. */
+   unsigned_sums/checked_mul.larger_quotient_taken, square. */
 pb_answer_usize pb_usize_checked_mul(size_t x, size_t y);
 
 /* The smallest multiple of `y` that is at least `x`. Refused where `y` is 0 or the multiple is above
@@ -1162,60 +1157,60 @@ pb_answer_usize pb_usize_checked_mul(size_t x, size_t y);
    Cited by rows A11; clause vstd_integers/Unsigned.checked_next_multiple_of; contract
    promisebook_usize::pb_usize_checked_next_multiple_of; law vstd_integers/Unsigned.checked_next_multiple_of_kept;
    pinned by vstd_integers/Pinned.pinned_unsigned_option; refused
-   unsigned8_division/checked_next_multiple_of.always_a_multiple, first_multiple,
+   unsigned_division/checked_next_multiple_of.always_a_multiple, first_multiple,
    vstd_integers/checked_next_multiple_of.zero_not_refused, promisebook_u8/checked_next_multiple_of.nine_bits. */
 pb_answer_usize pb_usize_checked_next_multiple_of(size_t x, size_t y);
 
 /* The quotient of `x` by `y`, rounded towards zero. Refused where `y` is 0.
    Cited by rows A12; clause vstd_integers/Unsigned.checked_div; contract promisebook_usize::pb_usize_checked_div;
    law vstd_integers/Unsigned.checked_div_kept; pinned by vstd_integers/Pinned.pinned_unsigned_option; refused
-   unsigned8_division/checked_div.by_zero_is_0, other_dividend. */
+   unsigned_division/checked_div.by_zero_is_0, other_dividend. */
 pb_answer_usize pb_usize_checked_div(size_t x, size_t y);
 
 /* The quotient of `x` by `y` whose remainder is not negative. Refused where `y` is 0.
    Cited by rows A13; clause vstd_integers/Unsigned.checked_div; contract
    promisebook_usize::pb_usize_checked_div_euclid; law vstd_integers/Unsigned.checked_div_euclid_kept; pinned by
-   vstd_integers/Pinned.pinned_unsigned_option; refused unsigned8_division/checked_div_euclid.by_zero_is_0,
+   vstd_integers/Pinned.pinned_unsigned_option; refused unsigned_division/checked_div_euclid.by_zero_is_0,
    other_way_round. */
 pb_answer_usize pb_usize_checked_div_euclid(size_t x, size_t y);
 
 /* The remainder of `x` by `y`. Refused where `y` is 0.
    Cited by rows A14; clause vstd_integers/Unsigned.checked_rem; contract promisebook_usize::pb_usize_checked_rem;
    law vstd_integers/Unsigned.checked_rem_kept; pinned by vstd_integers/Pinned.pinned_unsigned_option; refused
-   unsigned8_division/checked_rem.by_zero_is_dividend, other_dividend. */
+   unsigned_division/checked_rem.by_zero_is_dividend, other_dividend. */
 pb_answer_usize pb_usize_checked_rem(size_t x, size_t y);
 
 /* The remainder of `x` by `y` that is not negative. Refused where `y` is 0.
    Cited by rows A15; clause vstd_integers/Unsigned.checked_rem; contract
    promisebook_usize::pb_usize_checked_rem_euclid; law vstd_integers/Unsigned.checked_rem_euclid_kept; pinned by
-   vstd_integers/Pinned.pinned_unsigned_option; refused unsigned8_division/checked_rem_euclid.by_zero_is_dividend,
+   vstd_integers/Pinned.pinned_unsigned_option; refused unsigned_division/checked_rem_euclid.by_zero_is_dividend,
    other_way_round. */
 pb_answer_usize pb_usize_checked_rem_euclid(size_t x, size_t y);
 
 /* The sum `x + y`, or 18446744073709551615 where it is larger.
    Cited by rows A16; clause vstd_integers/Unsigned.saturating_add; contract
    promisebook_usize::pb_usize_saturating_add; law vstd_integers/Unsigned.saturating_add_kept; pinned by
-   vstd_integers/Pinned.pinned_unsigned; refused unsigned8_sums/saturating_add.first_summand, wraps_to_0. */
+   vstd_integers/Pinned.pinned_unsigned; refused unsigned_sums/saturating_add.first_summand, wraps_to_0. */
 size_t pb_usize_saturating_add(size_t x, size_t y);
 
 /* The difference `x - y`, or 0 where it is below that.
    Cited by rows A17; clause vstd_integers/Unsigned.saturating_sub; contract
    promisebook_usize::pb_usize_saturating_sub; law vstd_integers/Unsigned.saturating_sub_kept; pinned by
-   vstd_integers/Pinned.pinned_unsigned; refused unsigned8_sums/saturating_sub.other_side, stops_at_1,
+   vstd_integers/Pinned.pinned_unsigned; refused unsigned_sums/saturating_sub.other_side, stops_at_1,
    promisebook_u8/saturating_sub.wraps. */
 size_t pb_usize_saturating_sub(size_t x, size_t y);
 
 /* The product `x * y`, or 18446744073709551615 where it is larger.
    Cited by rows A18; clause vstd_integers/Unsigned.saturating_mul; contract
    promisebook_usize::pb_usize_saturating_mul; law vstd_integers/Unsigned.saturating_mul_kept; pinned by
-   vstd_integers/Pinned.pinned_unsigned; refused unsigned8_sums/saturating_mul.square, wraps_to_0,
+   vstd_integers/Pinned.pinned_unsigned; refused unsigned_sums/saturating_mul.square, wraps_to_0,
    vstd_integers/saturating_mul.wraps. */
 size_t pb_usize_saturating_mul(size_t x, size_t y);
 
 /* Whether `x` is a multiple of `y`; of 0 only 0 is.
    Cited by rows A19; clause vstd_integers/Unsigned.is_multiple_of; contract
    promisebook_usize::pb_usize_is_multiple_of; law vstd_integers/Unsigned.is_multiple_of_kept; pinned by
-   vstd_integers/Pinned.pinned_equation; refused unsigned8_division/is_multiple_of.all_of_zero, remainder_of_1,
+   vstd_integers/Pinned.pinned_equation; refused unsigned_division/is_multiple_of.all_of_zero, remainder_of_1,
    vstd_integers/is_multiple_of.all_of_zero. */
 bool pb_usize_is_multiple_of(size_t x, size_t y);
 
@@ -1264,8 +1259,8 @@ bool pb_usize_ge(size_t x, size_t y);
 /* How `x` stands to `y`: less (-1), equal (0) or greater (1).
    Cited by rows A38; clause vstd_integers/Compare.cmp; contract promisebook_usize::pb_usize_cmp; law
    vstd_integers/Compare.cmp_kept; pinned by vstd_integers/Pinned.pinned_equation; refused
-   ordering/number.greater_is_0, less_is_1, unsigned8_order/compare.equal_is_greater, less_is_greater,
-   signed8_order/compare.equal_is_greater, less_is_greater. */
+   ordering/number.greater_is_0, less_is_1, unsigned_order/compare.equal_is_greater, less_is_greater,
+   signed_order/compare.equal_is_greater, less_is_greater. */
 int8_t pb_usize_cmp(size_t x, size_t y);
 
 /* How `x` stands to `y`: less (-1), equal (0) or greater (1). Never refused.
@@ -1296,75 +1291,75 @@ pb_answer_usize pb_usize_write_decimal(size_t x, uint8_t *s, size_t s_len, size_
 /* The sum `x + y`, wrapped: the signed number of 8 bits that differs from it by a multiple of 2^8.
    Cited by rows A20; clause vstd_integers/Signed.wrapping_add; contract promisebook_i8::pb_i8_wrapping_add; law
    vstd_integers/Signed.wrapping_add_kept; pinned by vstd_integers/Pinned.pinned_equation; refused
-   signed8_sums/wrapping_add.complement, twice. */
+   signed_sums/wrapping_add.complement, twice. */
 int8_t pb_i8_wrapping_add(int8_t x, int8_t y);
 
 /* The sum `x + y`, wrapped: the signed number of 8 bits that differs from it by a multiple of 2^8.
    Cited by rows A21; clause vstd_integers/Signed.wrapping_add_unsigned; contract
    promisebook_i8::pb_i8_wrapping_add_unsigned; law vstd_integers/Signed.wrapping_add_unsigned_kept; pinned by
-   vstd_integers/Pinned.pinned_equation; refused signed8_sums/wrapping_add_unsigned.complement, subtracts. */
+   vstd_integers/Pinned.pinned_equation; refused signed_sums/wrapping_add_unsigned.complement, subtracts. */
 int8_t pb_i8_wrapping_add_unsigned(int8_t x, uint8_t y);
 
 /* The difference `x - y`, wrapped: the signed number of 8 bits that differs from it by a multiple of 2^8.
    Cited by rows A22; clause vstd_integers/Signed.wrapping_sub; contract promisebook_i8::pb_i8_wrapping_sub; law
    vstd_integers/Signed.wrapping_sub_kept; pinned by vstd_integers/Pinned.pinned_equation; refused
-   signed8_sums/wrapping_sub.nothing_left, other_way_round, vstd_integers/wrapping_sub.passes_the_top. */
+   signed_sums/wrapping_sub.nothing_left, other_way_round, vstd_integers/wrapping_sub.passes_the_top. */
 int8_t pb_i8_wrapping_sub(int8_t x, int8_t y);
 
 /* The product `x * y`, wrapped: the signed number of 8 bits that differs from it by a multiple of 2^8.
    Cited by rows A23; clause vstd_integers/Signed.wrapping_mul; contract promisebook_i8::pb_i8_wrapping_mul; law
    vstd_integers/Signed.wrapping_mul_kept; pinned by vstd_integers/Pinned.pinned_equation; refused
-   signed8_sums/wrapping_mul.complement, square. */
+   signed_sums/wrapping_mul.complement, square. */
 int8_t pb_i8_wrapping_mul(int8_t x, int8_t y);
 
 /* `x` shifted to the left by `rhs` modulo 8: zeros come in, and what leaves the 8 bits is lost.
    Cited by rows A24; clause vstd_integers/Signed.wrapping_shl; contract promisebook_i8::pb_i8_wrapping_shl; law
    vstd_integers/Signed.wrapping_shl_kept; pinned by vstd_integers/Pinned.pinned_equation; refused
-   signed8_bits/wrapping_shl.by_the_width_is_0, modulo_7. */
+   signed_bits/wrapping_shl.by_the_width_is_0, modulo_7. */
 int8_t pb_i8_wrapping_shl(int8_t x, uint32_t rhs);
 
 /* `x` shifted to the right by `rhs` modulo 8: the sign comes in, so that it is the quotient by 2 to that power,
    rounded down.
    Cited by rows A25; clause vstd_integers/Signed.wrapping_shr; contract promisebook_i8::pb_i8_wrapping_shr; law
    vstd_integers/Signed.wrapping_shr_kept; pinned by vstd_integers/Pinned.pinned_equation; refused
-   signed8_bits/wrapping_shr.modulo_7, towards_zero. */
+   signed_bits/wrapping_shr.modulo_7, towards_zero. */
 int8_t pb_i8_wrapping_shr(int8_t x, uint32_t rhs);
 
 /* The sum `x + y`. Refused where it is not from -128 to 127.
    Cited by rows A26; clause vstd_integers/Signed.checked_add; contract promisebook_i8::pb_i8_checked_add; law
    vstd_integers/Signed.checked_add_kept; pinned by vstd_integers/Pinned.pinned_option; refused
-   signed8_sums/checked_add.first_summand, largest_refused, signed64_sums/checked_add.other_signs_refused. */
+   signed_sums/checked_add.first_summand, largest_refused, other_signs_refused. */
 pb_answer_i8 pb_i8_checked_add(int8_t x, int8_t y);
 
 /* The sum `x + y`. Refused where it is not from -128 to 127.
    Cited by rows A27; clause vstd_integers/Signed.checked_add_unsigned; contract
    promisebook_i8::pb_i8_checked_add_unsigned; law vstd_integers/Signed.checked_add_unsigned_kept; pinned by
-   vstd_integers/Pinned.pinned_option; refused signed8_sums/checked_add_unsigned.first_summand, rise_refused. */
+   vstd_integers/Pinned.pinned_option; refused signed_sums/checked_add_unsigned.first_summand, rise_refused. */
 pb_answer_i8 pb_i8_checked_add_unsigned(int8_t x, uint8_t y);
 
 /* The difference `x - y`. Refused where it is not from -128 to 127.
    Cited by rows A28; clause vstd_integers/Signed.checked_sub; contract promisebook_i8::pb_i8_checked_sub; law
    vstd_integers/Signed.checked_sub_kept; pinned by vstd_integers/Pinned.pinned_option; refused
-   signed8_sums/checked_sub.least_refused, other_way_round, signed64_sums/checked_sub.other_signs_refused. */
+   signed_sums/checked_sub.least_refused, other_way_round, other_signs_refused. */
 pb_answer_i8 pb_i8_checked_sub(int8_t x, int8_t y);
 
 /* The difference `x - y`. Refused where it is not from -128 to 127.
    Cited by rows A29; clause vstd_integers/Signed.checked_sub_unsigned; contract
    promisebook_i8::pb_i8_checked_sub_unsigned; law vstd_integers/Signed.checked_sub_unsigned_kept; pinned by
-   vstd_integers/Pinned.pinned_option; refused signed8_sums/checked_sub_unsigned.fall_refused, first_number. */
+   vstd_integers/Pinned.pinned_option; refused signed_sums/checked_sub_unsigned.fall_refused, first_number. */
 pb_answer_i8 pb_i8_checked_sub_unsigned(int8_t x, uint8_t y);
 
 /* The product `x * y`. Refused where it is not from -128 to 127.
    Cited by rows A30; clause vstd_integers/Signed.checked_mul; contract promisebook_i8::pb_i8_checked_mul; law
    vstd_integers/Signed.checked_mul_kept; pinned by vstd_integers/Pinned.pinned_option; refused
-   signed8_sums/checked_mul.larger_quotient_taken, square. */
+   signed_sums/checked_mul.larger_quotient_taken, square. */
 pb_answer_i8 pb_i8_checked_mul(int8_t x, int8_t y);
 
 /* The quotient of `x` by `y`, rounded towards zero. Refused where `y` is 0, and where `x` is -128 and `y` is -1,
    since the quotient does not fit.
    Cited by rows A31; clause vstd_integers/Signed.checked_div; contract promisebook_i8::pb_i8_checked_div; law
    vstd_integers/Signed.checked_div_kept; pinned by vstd_integers/Pinned.pinned_option; refused
-   signed8_division/checked_div.least_by_minus_one_wraps, other_dividend, vstd_integers/checked_div.euclidean,
+   signed_division/checked_div.least_by_minus_one_wraps, other_dividend, vstd_integers/checked_div.euclidean,
    vstd_integers/divided_unless.least_by_minus_one_not_refused. */
 pb_answer_i8 pb_i8_checked_div(int8_t x, int8_t y);
 
@@ -1372,7 +1367,7 @@ pb_answer_i8 pb_i8_checked_div(int8_t x, int8_t y);
    is -1, since the quotient does not fit.
    Cited by rows A32; clause vstd_integers/Signed.checked_div_euclid; contract
    promisebook_i8::pb_i8_checked_div_euclid; law vstd_integers/Signed.checked_div_euclid_kept; pinned by
-   vstd_integers/Pinned.pinned_option; refused signed8_division/checked_div_euclid.not_mended, towards_zero,
+   vstd_integers/Pinned.pinned_option; refused signed_division/checked_div_euclid.not_mended, towards_zero,
    promisebook_i8/checked_div_euclid.towards_zero. */
 pb_answer_i8 pb_i8_checked_div_euclid(int8_t x, int8_t y);
 
@@ -1380,14 +1375,14 @@ pb_answer_i8 pb_i8_checked_div_euclid(int8_t x, int8_t y);
    -1, since the quotient does not fit.
    Cited by rows A33; clause vstd_integers/Signed.checked_rem; contract promisebook_i8::pb_i8_checked_rem; law
    vstd_integers/Signed.checked_rem_kept; pinned by vstd_integers/Pinned.pinned_option; refused
-   signed8_division/checked_rem.euclidean, least_by_minus_one_is_0, promisebook_i8/checked_rem.euclidean. */
+   signed_division/checked_rem.euclidean, least_by_minus_one_is_0, promisebook_i8/checked_rem.euclidean. */
 pb_answer_i8 pb_i8_checked_rem(int8_t x, int8_t y);
 
 /* The remainder of `x` by `y` that is not negative. Refused where `y` is 0, and where `x` is -128 and `y` is -1,
    since the quotient does not fit.
    Cited by rows A34; clause vstd_integers/Signed.checked_rem_euclid; contract
    promisebook_i8::pb_i8_checked_rem_euclid; law vstd_integers/Signed.checked_rem_euclid_kept; pinned by
-   vstd_integers/Pinned.pinned_option; refused signed8_division/checked_rem_euclid.absolute_value, not_mended. */
+   vstd_integers/Pinned.pinned_option; refused signed_division/checked_rem_euclid.absolute_value, not_mended. */
 pb_answer_i8 pb_i8_checked_rem_euclid(int8_t x, int8_t y);
 
 /* `x` itself.
@@ -1435,8 +1430,8 @@ bool pb_i8_ge(int8_t x, int8_t y);
 /* How `x` stands to `y`: less (-1), equal (0) or greater (1).
    Cited by rows A38; clause vstd_integers/Compare.cmp; contract promisebook_i8::pb_i8_cmp; law
    vstd_integers/Compare.cmp_kept; pinned by vstd_integers/Pinned.pinned_equation; refused
-   ordering/number.greater_is_0, less_is_1, unsigned8_order/compare.equal_is_greater, less_is_greater,
-   signed8_order/compare.equal_is_greater, less_is_greater. */
+   ordering/number.greater_is_0, less_is_1, unsigned_order/compare.equal_is_greater, less_is_greater,
+   signed_order/compare.equal_is_greater, less_is_greater. */
 int8_t pb_i8_cmp(int8_t x, int8_t y);
 
 /* How `x` stands to `y`: less (-1), equal (0) or greater (1). Never refused.
@@ -1464,75 +1459,75 @@ pb_answer_usize pb_i8_write_decimal(int8_t x, uint8_t *s, size_t s_len, size_t a
 /* The sum `x + y`, wrapped: the signed number of 16 bits that differs from it by a multiple of 2^16.
    Cited by rows A20; clause vstd_integers/Signed.wrapping_add; contract promisebook_i16::pb_i16_wrapping_add; law
    vstd_integers/Signed.wrapping_add_kept; pinned by vstd_integers/Pinned.pinned_equation; refused
-   signed8_sums/wrapping_add.complement, twice. */
+   signed_sums/wrapping_add.complement, twice. */
 int16_t pb_i16_wrapping_add(int16_t x, int16_t y);
 
 /* The sum `x + y`, wrapped: the signed number of 16 bits that differs from it by a multiple of 2^16.
    Cited by rows A21; clause vstd_integers/Signed.wrapping_add_unsigned; contract
    promisebook_i16::pb_i16_wrapping_add_unsigned; law vstd_integers/Signed.wrapping_add_unsigned_kept; pinned by
-   vstd_integers/Pinned.pinned_equation; refused signed8_sums/wrapping_add_unsigned.complement, subtracts. */
+   vstd_integers/Pinned.pinned_equation; refused signed_sums/wrapping_add_unsigned.complement, subtracts. */
 int16_t pb_i16_wrapping_add_unsigned(int16_t x, uint16_t y);
 
 /* The difference `x - y`, wrapped: the signed number of 16 bits that differs from it by a multiple of 2^16.
    Cited by rows A22; clause vstd_integers/Signed.wrapping_sub; contract promisebook_i16::pb_i16_wrapping_sub; law
    vstd_integers/Signed.wrapping_sub_kept; pinned by vstd_integers/Pinned.pinned_equation; refused
-   signed8_sums/wrapping_sub.nothing_left, other_way_round, vstd_integers/wrapping_sub.passes_the_top. */
+   signed_sums/wrapping_sub.nothing_left, other_way_round, vstd_integers/wrapping_sub.passes_the_top. */
 int16_t pb_i16_wrapping_sub(int16_t x, int16_t y);
 
 /* The product `x * y`, wrapped: the signed number of 16 bits that differs from it by a multiple of 2^16.
    Cited by rows A23; clause vstd_integers/Signed.wrapping_mul; contract promisebook_i16::pb_i16_wrapping_mul; law
    vstd_integers/Signed.wrapping_mul_kept; pinned by vstd_integers/Pinned.pinned_equation; refused
-   signed8_sums/wrapping_mul.complement, square. */
+   signed_sums/wrapping_mul.complement, square. */
 int16_t pb_i16_wrapping_mul(int16_t x, int16_t y);
 
 /* `x` shifted to the left by `rhs` modulo 16: zeros come in, and what leaves the 16 bits is lost.
    Cited by rows A24; clause vstd_integers/Signed.wrapping_shl; contract promisebook_i16::pb_i16_wrapping_shl; law
    vstd_integers/Signed.wrapping_shl_kept; pinned by vstd_integers/Pinned.pinned_equation; refused
-   signed8_bits/wrapping_shl.by_the_width_is_0, modulo_7. */
+   signed_bits/wrapping_shl.by_the_width_is_0, modulo_7. */
 int16_t pb_i16_wrapping_shl(int16_t x, uint32_t rhs);
 
 /* `x` shifted to the right by `rhs` modulo 16: the sign comes in, so that it is the quotient by 2 to that power,
    rounded down.
    Cited by rows A25; clause vstd_integers/Signed.wrapping_shr; contract promisebook_i16::pb_i16_wrapping_shr; law
    vstd_integers/Signed.wrapping_shr_kept; pinned by vstd_integers/Pinned.pinned_equation; refused
-   signed8_bits/wrapping_shr.modulo_7, towards_zero. */
+   signed_bits/wrapping_shr.modulo_7, towards_zero. */
 int16_t pb_i16_wrapping_shr(int16_t x, uint32_t rhs);
 
 /* The sum `x + y`. Refused where it is not from -32768 to 32767.
    Cited by rows A26; clause vstd_integers/Signed.checked_add; contract promisebook_i16::pb_i16_checked_add; law
    vstd_integers/Signed.checked_add_kept; pinned by vstd_integers/Pinned.pinned_option; refused
-   signed8_sums/checked_add.first_summand, largest_refused, signed64_sums/checked_add.other_signs_refused. */
+   signed_sums/checked_add.first_summand, largest_refused, other_signs_refused. */
 pb_answer_i16 pb_i16_checked_add(int16_t x, int16_t y);
 
 /* The sum `x + y`. Refused where it is not from -32768 to 32767.
    Cited by rows A27; clause vstd_integers/Signed.checked_add_unsigned; contract
    promisebook_i16::pb_i16_checked_add_unsigned; law vstd_integers/Signed.checked_add_unsigned_kept; pinned by
-   vstd_integers/Pinned.pinned_option; refused signed8_sums/checked_add_unsigned.first_summand, rise_refused. */
+   vstd_integers/Pinned.pinned_option; refused signed_sums/checked_add_unsigned.first_summand, rise_refused. */
 pb_answer_i16 pb_i16_checked_add_unsigned(int16_t x, uint16_t y);
 
 /* The difference `x - y`. Refused where it is not from -32768 to 32767.
    Cited by rows A28; clause vstd_integers/Signed.checked_sub; contract promisebook_i16::pb_i16_checked_sub; law
    vstd_integers/Signed.checked_sub_kept; pinned by vstd_integers/Pinned.pinned_option; refused
-   signed8_sums/checked_sub.least_refused, other_way_round, signed64_sums/checked_sub.other_signs_refused. */
+   signed_sums/checked_sub.least_refused, other_way_round, other_signs_refused. */
 pb_answer_i16 pb_i16_checked_sub(int16_t x, int16_t y);
 
 /* The difference `x - y`. Refused where it is not from -32768 to 32767.
    Cited by rows A29; clause vstd_integers/Signed.checked_sub_unsigned; contract
    promisebook_i16::pb_i16_checked_sub_unsigned; law vstd_integers/Signed.checked_sub_unsigned_kept; pinned by
-   vstd_integers/Pinned.pinned_option; refused signed8_sums/checked_sub_unsigned.fall_refused, first_number. */
+   vstd_integers/Pinned.pinned_option; refused signed_sums/checked_sub_unsigned.fall_refused, first_number. */
 pb_answer_i16 pb_i16_checked_sub_unsigned(int16_t x, uint16_t y);
 
 /* The product `x * y`. Refused where it is not from -32768 to 32767.
    Cited by rows A30; clause vstd_integers/Signed.checked_mul; contract promisebook_i16::pb_i16_checked_mul; law
    vstd_integers/Signed.checked_mul_kept; pinned by vstd_integers/Pinned.pinned_option; refused
-   signed8_sums/checked_mul.larger_quotient_taken, square. */
+   signed_sums/checked_mul.larger_quotient_taken, square. */
 pb_answer_i16 pb_i16_checked_mul(int16_t x, int16_t y);
 
 /* The quotient of `x` by `y`, rounded towards zero. Refused where `y` is 0, and where `x` is -32768 and `y` is -1,
    since the quotient does not fit.
    Cited by rows A31; clause vstd_integers/Signed.checked_div; contract promisebook_i16::pb_i16_checked_div; law
    vstd_integers/Signed.checked_div_kept; pinned by vstd_integers/Pinned.pinned_option; refused
-   signed8_division/checked_div.least_by_minus_one_wraps, other_dividend, vstd_integers/checked_div.euclidean,
+   signed_division/checked_div.least_by_minus_one_wraps, other_dividend, vstd_integers/checked_div.euclidean,
    vstd_integers/divided_unless.least_by_minus_one_not_refused. */
 pb_answer_i16 pb_i16_checked_div(int16_t x, int16_t y);
 
@@ -1540,7 +1535,7 @@ pb_answer_i16 pb_i16_checked_div(int16_t x, int16_t y);
    `y` is -1, since the quotient does not fit.
    Cited by rows A32; clause vstd_integers/Signed.checked_div_euclid; contract
    promisebook_i16::pb_i16_checked_div_euclid; law vstd_integers/Signed.checked_div_euclid_kept; pinned by
-   vstd_integers/Pinned.pinned_option; refused signed8_division/checked_div_euclid.not_mended, towards_zero,
+   vstd_integers/Pinned.pinned_option; refused signed_division/checked_div_euclid.not_mended, towards_zero,
    promisebook_i8/checked_div_euclid.towards_zero. */
 pb_answer_i16 pb_i16_checked_div_euclid(int16_t x, int16_t y);
 
@@ -1548,14 +1543,14 @@ pb_answer_i16 pb_i16_checked_div_euclid(int16_t x, int16_t y);
    -1, since the quotient does not fit.
    Cited by rows A33; clause vstd_integers/Signed.checked_rem; contract promisebook_i16::pb_i16_checked_rem; law
    vstd_integers/Signed.checked_rem_kept; pinned by vstd_integers/Pinned.pinned_option; refused
-   signed8_division/checked_rem.euclidean, least_by_minus_one_is_0, promisebook_i8/checked_rem.euclidean. */
+   signed_division/checked_rem.euclidean, least_by_minus_one_is_0, promisebook_i8/checked_rem.euclidean. */
 pb_answer_i16 pb_i16_checked_rem(int16_t x, int16_t y);
 
 /* The remainder of `x` by `y` that is not negative. Refused where `y` is 0, and where `x` is -32768 and `y` is -1,
    since the quotient does not fit.
    Cited by rows A34; clause vstd_integers/Signed.checked_rem_euclid; contract
    promisebook_i16::pb_i16_checked_rem_euclid; law vstd_integers/Signed.checked_rem_euclid_kept; pinned by
-   vstd_integers/Pinned.pinned_option; refused signed8_division/checked_rem_euclid.absolute_value, not_mended. */
+   vstd_integers/Pinned.pinned_option; refused signed_division/checked_rem_euclid.absolute_value, not_mended. */
 pb_answer_i16 pb_i16_checked_rem_euclid(int16_t x, int16_t y);
 
 /* `x` itself.
@@ -1603,8 +1598,8 @@ bool pb_i16_ge(int16_t x, int16_t y);
 /* How `x` stands to `y`: less (-1), equal (0) or greater (1).
    Cited by rows A38; clause vstd_integers/Compare.cmp; contract promisebook_i16::pb_i16_cmp; law
    vstd_integers/Compare.cmp_kept; pinned by vstd_integers/Pinned.pinned_equation; refused
-   ordering/number.greater_is_0, less_is_1, unsigned8_order/compare.equal_is_greater, less_is_greater,
-   signed8_order/compare.equal_is_greater, less_is_greater. */
+   ordering/number.greater_is_0, less_is_1, unsigned_order/compare.equal_is_greater, less_is_greater,
+   signed_order/compare.equal_is_greater, less_is_greater. */
 int8_t pb_i16_cmp(int16_t x, int16_t y);
 
 /* How `x` stands to `y`: less (-1), equal (0) or greater (1). Never refused.
@@ -1632,75 +1627,75 @@ pb_answer_usize pb_i16_write_decimal(int16_t x, uint8_t *s, size_t s_len, size_t
 /* The sum `x + y`, wrapped: the signed number of 32 bits that differs from it by a multiple of 2^32.
    Cited by rows A20; clause vstd_integers/Signed.wrapping_add; contract promisebook_i32::pb_i32_wrapping_add; law
    vstd_integers/Signed.wrapping_add_kept; pinned by vstd_integers/Pinned.pinned_equation; refused
-   signed8_sums/wrapping_add.complement, twice. */
+   signed_sums/wrapping_add.complement, twice. */
 int32_t pb_i32_wrapping_add(int32_t x, int32_t y);
 
 /* The sum `x + y`, wrapped: the signed number of 32 bits that differs from it by a multiple of 2^32.
    Cited by rows A21; clause vstd_integers/Signed.wrapping_add_unsigned; contract
    promisebook_i32::pb_i32_wrapping_add_unsigned; law vstd_integers/Signed.wrapping_add_unsigned_kept; pinned by
-   vstd_integers/Pinned.pinned_equation; refused signed8_sums/wrapping_add_unsigned.complement, subtracts. */
+   vstd_integers/Pinned.pinned_equation; refused signed_sums/wrapping_add_unsigned.complement, subtracts. */
 int32_t pb_i32_wrapping_add_unsigned(int32_t x, uint32_t y);
 
 /* The difference `x - y`, wrapped: the signed number of 32 bits that differs from it by a multiple of 2^32.
    Cited by rows A22; clause vstd_integers/Signed.wrapping_sub; contract promisebook_i32::pb_i32_wrapping_sub; law
    vstd_integers/Signed.wrapping_sub_kept; pinned by vstd_integers/Pinned.pinned_equation; refused
-   signed8_sums/wrapping_sub.nothing_left, other_way_round, vstd_integers/wrapping_sub.passes_the_top. */
+   signed_sums/wrapping_sub.nothing_left, other_way_round, vstd_integers/wrapping_sub.passes_the_top. */
 int32_t pb_i32_wrapping_sub(int32_t x, int32_t y);
 
 /* The product `x * y`, wrapped: the signed number of 32 bits that differs from it by a multiple of 2^32.
    Cited by rows A23; clause vstd_integers/Signed.wrapping_mul; contract promisebook_i32::pb_i32_wrapping_mul; law
    vstd_integers/Signed.wrapping_mul_kept; pinned by vstd_integers/Pinned.pinned_equation; refused
-   signed8_sums/wrapping_mul.complement, square. */
+   signed_sums/wrapping_mul.complement, square. */
 int32_t pb_i32_wrapping_mul(int32_t x, int32_t y);
 
 /* `x` shifted to the left by `rhs` modulo 32: zeros come in, and what leaves the 32 bits is lost.
    Cited by rows A24; clause vstd_integers/Signed.wrapping_shl; contract promisebook_i32::pb_i32_wrapping_shl; law
    vstd_integers/Signed.wrapping_shl_kept; pinned by vstd_integers/Pinned.pinned_equation; refused
-   signed8_bits/wrapping_shl.by_the_width_is_0, modulo_7. */
+   signed_bits/wrapping_shl.by_the_width_is_0, modulo_7. */
 int32_t pb_i32_wrapping_shl(int32_t x, uint32_t rhs);
 
 /* `x` shifted to the right by `rhs` modulo 32: the sign comes in, so that it is the quotient by 2 to that power,
    rounded down.
    Cited by rows A25; clause vstd_integers/Signed.wrapping_shr; contract promisebook_i32::pb_i32_wrapping_shr; law
    vstd_integers/Signed.wrapping_shr_kept; pinned by vstd_integers/Pinned.pinned_equation; refused
-   signed8_bits/wrapping_shr.modulo_7, towards_zero. */
+   signed_bits/wrapping_shr.modulo_7, towards_zero. */
 int32_t pb_i32_wrapping_shr(int32_t x, uint32_t rhs);
 
 /* The sum `x + y`. Refused where it is not from -2147483648 to 2147483647.
    Cited by rows A26; clause vstd_integers/Signed.checked_add; contract promisebook_i32::pb_i32_checked_add; law
    vstd_integers/Signed.checked_add_kept; pinned by vstd_integers/Pinned.pinned_option; refused
-   signed8_sums/checked_add.first_summand, largest_refused, signed64_sums/checked_add.other_signs_refused. */
+   signed_sums/checked_add.first_summand, largest_refused, other_signs_refused. */
 pb_answer_i32 pb_i32_checked_add(int32_t x, int32_t y);
 
 /* The sum `x + y`. Refused where it is not from -2147483648 to 2147483647.
    Cited by rows A27; clause vstd_integers/Signed.checked_add_unsigned; contract
    promisebook_i32::pb_i32_checked_add_unsigned; law vstd_integers/Signed.checked_add_unsigned_kept; pinned by
-   vstd_integers/Pinned.pinned_option; refused signed8_sums/checked_add_unsigned.first_summand, rise_refused. */
+   vstd_integers/Pinned.pinned_option; refused signed_sums/checked_add_unsigned.first_summand, rise_refused. */
 pb_answer_i32 pb_i32_checked_add_unsigned(int32_t x, uint32_t y);
 
 /* The difference `x - y`. Refused where it is not from -2147483648 to 2147483647.
    Cited by rows A28; clause vstd_integers/Signed.checked_sub; contract promisebook_i32::pb_i32_checked_sub; law
    vstd_integers/Signed.checked_sub_kept; pinned by vstd_integers/Pinned.pinned_option; refused
-   signed8_sums/checked_sub.least_refused, other_way_round, signed64_sums/checked_sub.other_signs_refused. */
+   signed_sums/checked_sub.least_refused, other_way_round, other_signs_refused. */
 pb_answer_i32 pb_i32_checked_sub(int32_t x, int32_t y);
 
 /* The difference `x - y`. Refused where it is not from -2147483648 to 2147483647.
    Cited by rows A29; clause vstd_integers/Signed.checked_sub_unsigned; contract
    promisebook_i32::pb_i32_checked_sub_unsigned; law vstd_integers/Signed.checked_sub_unsigned_kept; pinned by
-   vstd_integers/Pinned.pinned_option; refused signed8_sums/checked_sub_unsigned.fall_refused, first_number. */
+   vstd_integers/Pinned.pinned_option; refused signed_sums/checked_sub_unsigned.fall_refused, first_number. */
 pb_answer_i32 pb_i32_checked_sub_unsigned(int32_t x, uint32_t y);
 
 /* The product `x * y`. Refused where it is not from -2147483648 to 2147483647.
    Cited by rows A30; clause vstd_integers/Signed.checked_mul; contract promisebook_i32::pb_i32_checked_mul; law
    vstd_integers/Signed.checked_mul_kept; pinned by vstd_integers/Pinned.pinned_option; refused
-   signed8_sums/checked_mul.larger_quotient_taken, square. */
+   signed_sums/checked_mul.larger_quotient_taken, square. */
 pb_answer_i32 pb_i32_checked_mul(int32_t x, int32_t y);
 
 /* The quotient of `x` by `y`, rounded towards zero. Refused where `y` is 0, and where `x` is -2147483648 and `y` is
    -1, since the quotient does not fit.
    Cited by rows A31; clause vstd_integers/Signed.checked_div; contract promisebook_i32::pb_i32_checked_div; law
    vstd_integers/Signed.checked_div_kept; pinned by vstd_integers/Pinned.pinned_option; refused
-   signed8_division/checked_div.least_by_minus_one_wraps, other_dividend, vstd_integers/checked_div.euclidean,
+   signed_division/checked_div.least_by_minus_one_wraps, other_dividend, vstd_integers/checked_div.euclidean,
    vstd_integers/divided_unless.least_by_minus_one_not_refused. */
 pb_answer_i32 pb_i32_checked_div(int32_t x, int32_t y);
 
@@ -1708,7 +1703,7 @@ pb_answer_i32 pb_i32_checked_div(int32_t x, int32_t y);
    and `y` is -1, since the quotient does not fit.
    Cited by rows A32; clause vstd_integers/Signed.checked_div_euclid; contract
    promisebook_i32::pb_i32_checked_div_euclid; law vstd_integers/Signed.checked_div_euclid_kept; pinned by
-   vstd_integers/Pinned.pinned_option; refused signed8_division/checked_div_euclid.not_mended, towards_zero,
+   vstd_integers/Pinned.pinned_option; refused signed_division/checked_div_euclid.not_mended, towards_zero,
    promisebook_i8/checked_div_euclid.towards_zero. */
 pb_answer_i32 pb_i32_checked_div_euclid(int32_t x, int32_t y);
 
@@ -1716,14 +1711,14 @@ pb_answer_i32 pb_i32_checked_div_euclid(int32_t x, int32_t y);
    `y` is -1, since the quotient does not fit.
    Cited by rows A33; clause vstd_integers/Signed.checked_rem; contract promisebook_i32::pb_i32_checked_rem; law
    vstd_integers/Signed.checked_rem_kept; pinned by vstd_integers/Pinned.pinned_option; refused
-   signed8_division/checked_rem.euclidean, least_by_minus_one_is_0, promisebook_i8/checked_rem.euclidean. */
+   signed_division/checked_rem.euclidean, least_by_minus_one_is_0, promisebook_i8/checked_rem.euclidean. */
 pb_answer_i32 pb_i32_checked_rem(int32_t x, int32_t y);
 
 /* The remainder of `x` by `y` that is not negative. Refused where `y` is 0, and where `x` is -2147483648 and `y` is
    -1, since the quotient does not fit.
    Cited by rows A34; clause vstd_integers/Signed.checked_rem_euclid; contract
    promisebook_i32::pb_i32_checked_rem_euclid; law vstd_integers/Signed.checked_rem_euclid_kept; pinned by
-   vstd_integers/Pinned.pinned_option; refused signed8_division/checked_rem_euclid.absolute_value, not_mended. */
+   vstd_integers/Pinned.pinned_option; refused signed_division/checked_rem_euclid.absolute_value, not_mended. */
 pb_answer_i32 pb_i32_checked_rem_euclid(int32_t x, int32_t y);
 
 /* `x` itself.
@@ -1771,8 +1766,8 @@ bool pb_i32_ge(int32_t x, int32_t y);
 /* How `x` stands to `y`: less (-1), equal (0) or greater (1).
    Cited by rows A38; clause vstd_integers/Compare.cmp; contract promisebook_i32::pb_i32_cmp; law
    vstd_integers/Compare.cmp_kept; pinned by vstd_integers/Pinned.pinned_equation; refused
-   ordering/number.greater_is_0, less_is_1, unsigned8_order/compare.equal_is_greater, less_is_greater,
-   signed8_order/compare.equal_is_greater, less_is_greater. */
+   ordering/number.greater_is_0, less_is_1, unsigned_order/compare.equal_is_greater, less_is_greater,
+   signed_order/compare.equal_is_greater, less_is_greater. */
 int8_t pb_i32_cmp(int32_t x, int32_t y);
 
 /* How `x` stands to `y`: less (-1), equal (0) or greater (1). Never refused.
@@ -1800,75 +1795,75 @@ pb_answer_usize pb_i32_write_decimal(int32_t x, uint8_t *s, size_t s_len, size_t
 /* The sum `x + y`, wrapped: the signed number of 64 bits that differs from it by a multiple of 2^64.
    Cited by rows A20; clause vstd_integers/Signed.wrapping_add; contract promisebook_i64::pb_i64_wrapping_add; law
    vstd_integers/Signed.wrapping_add_kept; pinned by vstd_integers/Pinned.pinned_equation; refused
-   signed8_sums/wrapping_add.complement, twice. */
+   signed_sums/wrapping_add.complement, twice. */
 int64_t pb_i64_wrapping_add(int64_t x, int64_t y);
 
 /* The sum `x + y`, wrapped: the signed number of 64 bits that differs from it by a multiple of 2^64.
    Cited by rows A21; clause vstd_integers/Signed.wrapping_add_unsigned; contract
    promisebook_i64::pb_i64_wrapping_add_unsigned; law vstd_integers/Signed.wrapping_add_unsigned_kept; pinned by
-   vstd_integers/Pinned.pinned_equation; refused signed8_sums/wrapping_add_unsigned.complement, subtracts. */
+   vstd_integers/Pinned.pinned_equation; refused signed_sums/wrapping_add_unsigned.complement, subtracts. */
 int64_t pb_i64_wrapping_add_unsigned(int64_t x, uint64_t y);
 
 /* The difference `x - y`, wrapped: the signed number of 64 bits that differs from it by a multiple of 2^64.
    Cited by rows A22; clause vstd_integers/Signed.wrapping_sub; contract promisebook_i64::pb_i64_wrapping_sub; law
    vstd_integers/Signed.wrapping_sub_kept; pinned by vstd_integers/Pinned.pinned_equation; refused
-   signed8_sums/wrapping_sub.nothing_left, other_way_round, vstd_integers/wrapping_sub.passes_the_top. */
+   signed_sums/wrapping_sub.nothing_left, other_way_round, vstd_integers/wrapping_sub.passes_the_top. */
 int64_t pb_i64_wrapping_sub(int64_t x, int64_t y);
 
 /* The product `x * y`, wrapped: the signed number of 64 bits that differs from it by a multiple of 2^64.
    Cited by rows A23; clause vstd_integers/Signed.wrapping_mul; contract promisebook_i64::pb_i64_wrapping_mul; law
    vstd_integers/Signed.wrapping_mul_kept; pinned by vstd_integers/Pinned.pinned_equation; refused
-   signed8_sums/wrapping_mul.complement, square. */
+   signed_sums/wrapping_mul.complement, square. */
 int64_t pb_i64_wrapping_mul(int64_t x, int64_t y);
 
 /* `x` shifted to the left by `rhs` modulo 64: zeros come in, and what leaves the 64 bits is lost.
    Cited by rows A24; clause vstd_integers/Signed.wrapping_shl; contract promisebook_i64::pb_i64_wrapping_shl; law
    vstd_integers/Signed.wrapping_shl_kept; pinned by vstd_integers/Pinned.pinned_equation; refused
-   signed8_bits/wrapping_shl.by_the_width_is_0, modulo_7. */
+   signed_bits/wrapping_shl.by_the_width_is_0, modulo_7. */
 int64_t pb_i64_wrapping_shl(int64_t x, uint32_t rhs);
 
 /* `x` shifted to the right by `rhs` modulo 64: the sign comes in, so that it is the quotient by 2 to that power,
    rounded down.
    Cited by rows A25; clause vstd_integers/Signed.wrapping_shr; contract promisebook_i64::pb_i64_wrapping_shr; law
    vstd_integers/Signed.wrapping_shr_kept; pinned by vstd_integers/Pinned.pinned_equation; refused
-   signed8_bits/wrapping_shr.modulo_7, towards_zero. */
+   signed_bits/wrapping_shr.modulo_7, towards_zero. */
 int64_t pb_i64_wrapping_shr(int64_t x, uint32_t rhs);
 
 /* The sum `x + y`. Refused where it is not from -9223372036854775808 to 9223372036854775807.
    Cited by rows A26; clause vstd_integers/Signed.checked_add; contract promisebook_i64::pb_i64_checked_add; law
    vstd_integers/Signed.checked_add_kept; pinned by vstd_integers/Pinned.pinned_option; refused
-   signed8_sums/checked_add.first_summand, largest_refused, signed64_sums/checked_add.other_signs_refused. */
+   signed_sums/checked_add.first_summand, largest_refused, other_signs_refused. */
 pb_answer_i64 pb_i64_checked_add(int64_t x, int64_t y);
 
 /* The sum `x + y`. Refused where it is not from -9223372036854775808 to 9223372036854775807.
    Cited by rows A27; clause vstd_integers/Signed.checked_add_unsigned; contract
    promisebook_i64::pb_i64_checked_add_unsigned; law vstd_integers/Signed.checked_add_unsigned_kept; pinned by
-   vstd_integers/Pinned.pinned_option; refused signed8_sums/checked_add_unsigned.first_summand, rise_refused. */
+   vstd_integers/Pinned.pinned_option; refused signed_sums/checked_add_unsigned.first_summand, rise_refused. */
 pb_answer_i64 pb_i64_checked_add_unsigned(int64_t x, uint64_t y);
 
 /* The difference `x - y`. Refused where it is not from -9223372036854775808 to 9223372036854775807.
    Cited by rows A28; clause vstd_integers/Signed.checked_sub; contract promisebook_i64::pb_i64_checked_sub; law
    vstd_integers/Signed.checked_sub_kept; pinned by vstd_integers/Pinned.pinned_option; refused
-   signed8_sums/checked_sub.least_refused, other_way_round, signed64_sums/checked_sub.other_signs_refused. */
+   signed_sums/checked_sub.least_refused, other_way_round, other_signs_refused. */
 pb_answer_i64 pb_i64_checked_sub(int64_t x, int64_t y);
 
 /* The difference `x - y`. Refused where it is not from -9223372036854775808 to 9223372036854775807.
    Cited by rows A29; clause vstd_integers/Signed.checked_sub_unsigned; contract
    promisebook_i64::pb_i64_checked_sub_unsigned; law vstd_integers/Signed.checked_sub_unsigned_kept; pinned by
-   vstd_integers/Pinned.pinned_option; refused signed8_sums/checked_sub_unsigned.fall_refused, first_number. */
+   vstd_integers/Pinned.pinned_option; refused signed_sums/checked_sub_unsigned.fall_refused, first_number. */
 pb_answer_i64 pb_i64_checked_sub_unsigned(int64_t x, uint64_t y);
 
 /* The product `x * y`. Refused where it is not from -9223372036854775808 to 9223372036854775807.
    Cited by rows A30; clause vstd_integers/Signed.checked_mul; contract promisebook_i64::pb_i64_checked_mul; law
    vstd_integers/Signed.checked_mul_kept; pinned by vstd_integers/Pinned.pinned_option; refused
-   signed8_sums/checked_mul.larger_quotient_taken, square. */
+   signed_sums/checked_mul.larger_quotient_taken, square. */
 pb_answer_i64 pb_i64_checked_mul(int64_t x, int64_t y);
 
 /* The quotient of `x` by `y`, rounded towards zero. Refused where `y` is 0, and where `x` is -9223372036854775808
    and `y` is -1, since the quotient does not fit.
    Cited by rows A31; clause vstd_integers/Signed.checked_div; contract promisebook_i64::pb_i64_checked_div; law
    vstd_integers/Signed.checked_div_kept; pinned by vstd_integers/Pinned.pinned_option; refused
-   signed8_division/checked_div.least_by_minus_one_wraps, other_dividend, vstd_integers/checked_div.euclidean,
+   signed_division/checked_div.least_by_minus_one_wraps, other_dividend, vstd_integers/checked_div.euclidean,
    vstd_integers/divided_unless.least_by_minus_one_not_refused. */
 pb_answer_i64 pb_i64_checked_div(int64_t x, int64_t y);
 
@@ -1876,7 +1871,7 @@ pb_answer_i64 pb_i64_checked_div(int64_t x, int64_t y);
    -9223372036854775808 and `y` is -1, since the quotient does not fit.
    Cited by rows A32; clause vstd_integers/Signed.checked_div_euclid; contract
    promisebook_i64::pb_i64_checked_div_euclid; law vstd_integers/Signed.checked_div_euclid_kept; pinned by
-   vstd_integers/Pinned.pinned_option; refused signed8_division/checked_div_euclid.not_mended, towards_zero,
+   vstd_integers/Pinned.pinned_option; refused signed_division/checked_div_euclid.not_mended, towards_zero,
    promisebook_i8/checked_div_euclid.towards_zero. */
 pb_answer_i64 pb_i64_checked_div_euclid(int64_t x, int64_t y);
 
@@ -1884,14 +1879,14 @@ pb_answer_i64 pb_i64_checked_div_euclid(int64_t x, int64_t y);
    -9223372036854775808 and `y` is -1, since the quotient does not fit.
    Cited by rows A33; clause vstd_integers/Signed.checked_rem; contract promisebook_i64::pb_i64_checked_rem; law
    vstd_integers/Signed.checked_rem_kept; pinned by vstd_integers/Pinned.pinned_option; refused
-   signed8_division/checked_rem.euclidean, least_by_minus_one_is_0, promisebook_i8/checked_rem.euclidean. */
+   signed_division/checked_rem.euclidean, least_by_minus_one_is_0, promisebook_i8/checked_rem.euclidean. */
 pb_answer_i64 pb_i64_checked_rem(int64_t x, int64_t y);
 
 /* The remainder of `x` by `y` that is not negative. Refused where `y` is 0, and where `x` is -9223372036854775808
    and `y` is -1, since the quotient does not fit.
    Cited by rows A34; clause vstd_integers/Signed.checked_rem_euclid; contract
    promisebook_i64::pb_i64_checked_rem_euclid; law vstd_integers/Signed.checked_rem_euclid_kept; pinned by
-   vstd_integers/Pinned.pinned_option; refused signed8_division/checked_rem_euclid.absolute_value, not_mended. */
+   vstd_integers/Pinned.pinned_option; refused signed_division/checked_rem_euclid.absolute_value, not_mended. */
 pb_answer_i64 pb_i64_checked_rem_euclid(int64_t x, int64_t y);
 
 /* `x` itself.
@@ -1939,8 +1934,8 @@ bool pb_i64_ge(int64_t x, int64_t y);
 /* How `x` stands to `y`: less (-1), equal (0) or greater (1).
    Cited by rows A38; clause vstd_integers/Compare.cmp; contract promisebook_i64::pb_i64_cmp; law
    vstd_integers/Compare.cmp_kept; pinned by vstd_integers/Pinned.pinned_equation; refused
-   ordering/number.greater_is_0, less_is_1, unsigned8_order/compare.equal_is_greater, less_is_greater,
-   signed8_order/compare.equal_is_greater, less_is_greater. */
+   ordering/number.greater_is_0, less_is_1, unsigned_order/compare.equal_is_greater, less_is_greater,
+   signed_order/compare.equal_is_greater, less_is_greater. */
 int8_t pb_i64_cmp(int64_t x, int64_t y);
 
 /* How `x` stands to `y`: less (-1), equal (0) or greater (1). Never refused.
@@ -1968,75 +1963,75 @@ pb_answer_usize pb_i64_write_decimal(int64_t x, uint8_t *s, size_t s_len, size_t
 /* The sum `x + y`, wrapped: the signed number of 64 bits that differs from it by a multiple of 2^64.
    Cited by rows A20; clause vstd_integers/Signed.wrapping_add; contract promisebook_isize::pb_isize_wrapping_add;
    law vstd_integers/Signed.wrapping_add_kept; pinned by vstd_integers/Pinned.pinned_equation; refused
-   signed8_sums/wrapping_add.complement, twice. */
+   signed_sums/wrapping_add.complement, twice. */
 ptrdiff_t pb_isize_wrapping_add(ptrdiff_t x, ptrdiff_t y);
 
 /* The sum `x + y`, wrapped: the signed number of 64 bits that differs from it by a multiple of 2^64.
    Cited by rows A21; clause vstd_integers/Signed.wrapping_add_unsigned; contract
    promisebook_isize::pb_isize_wrapping_add_unsigned; law vstd_integers/Signed.wrapping_add_unsigned_kept; pinned
-   by vstd_integers/Pinned.pinned_equation; refused signed8_sums/wrapping_add_unsigned.complement, subtracts. */
+   by vstd_integers/Pinned.pinned_equation; refused signed_sums/wrapping_add_unsigned.complement, subtracts. */
 ptrdiff_t pb_isize_wrapping_add_unsigned(ptrdiff_t x, size_t y);
 
 /* The difference `x - y`, wrapped: the signed number of 64 bits that differs from it by a multiple of 2^64.
    Cited by rows A22; clause vstd_integers/Signed.wrapping_sub; contract promisebook_isize::pb_isize_wrapping_sub;
    law vstd_integers/Signed.wrapping_sub_kept; pinned by vstd_integers/Pinned.pinned_equation; refused
-   signed8_sums/wrapping_sub.nothing_left, other_way_round, vstd_integers/wrapping_sub.passes_the_top. */
+   signed_sums/wrapping_sub.nothing_left, other_way_round, vstd_integers/wrapping_sub.passes_the_top. */
 ptrdiff_t pb_isize_wrapping_sub(ptrdiff_t x, ptrdiff_t y);
 
 /* The product `x * y`, wrapped: the signed number of 64 bits that differs from it by a multiple of 2^64.
    Cited by rows A23; clause vstd_integers/Signed.wrapping_mul; contract promisebook_isize::pb_isize_wrapping_mul;
    law vstd_integers/Signed.wrapping_mul_kept; pinned by vstd_integers/Pinned.pinned_equation; refused
-   signed8_sums/wrapping_mul.complement, square. */
+   signed_sums/wrapping_mul.complement, square. */
 ptrdiff_t pb_isize_wrapping_mul(ptrdiff_t x, ptrdiff_t y);
 
 /* `x` shifted to the left by `rhs` modulo 64: zeros come in, and what leaves the 64 bits is lost.
    Cited by rows A24; clause vstd_integers/Signed.wrapping_shl; contract promisebook_isize::pb_isize_wrapping_shl;
    law vstd_integers/Signed.wrapping_shl_kept; pinned by vstd_integers/Pinned.pinned_equation; refused
-   signed8_bits/wrapping_shl.by_the_width_is_0, modulo_7. */
+   signed_bits/wrapping_shl.by_the_width_is_0, modulo_7. */
 ptrdiff_t pb_isize_wrapping_shl(ptrdiff_t x, uint32_t rhs);
 
 /* `x` shifted to the right by `rhs` modulo 64: the sign comes in, so that it is the quotient by 2 to that power,
    rounded down.
    Cited by rows A25; clause vstd_integers/Signed.wrapping_shr; contract promisebook_isize::pb_isize_wrapping_shr;
    law vstd_integers/Signed.wrapping_shr_kept; pinned by vstd_integers/Pinned.pinned_equation; refused
-   signed8_bits/wrapping_shr.modulo_7, towards_zero. */
+   signed_bits/wrapping_shr.modulo_7, towards_zero. */
 ptrdiff_t pb_isize_wrapping_shr(ptrdiff_t x, uint32_t rhs);
 
 /* The sum `x + y`. Refused where it is not from -9223372036854775808 to 9223372036854775807.
    Cited by rows A26; clause vstd_integers/Signed.checked_add; contract promisebook_isize::pb_isize_checked_add; law
    vstd_integers/Signed.checked_add_kept; pinned by vstd_integers/Pinned.pinned_option; refused
-   signed8_sums/checked_add.first_summand, largest_refused, signed64_sums/checked_add.other_signs_refused. */
+   signed_sums/checked_add.first_summand, largest_refused, other_signs_refused. */
 pb_answer_isize pb_isize_checked_add(ptrdiff_t x, ptrdiff_t y);
 
 /* The sum `x + y`. Refused where it is not from -9223372036854775808 to 9223372036854775807.
    Cited by rows A27; clause vstd_integers/Signed.checked_add_unsigned; contract
    promisebook_isize::pb_isize_checked_add_unsigned; law vstd_integers/Signed.checked_add_unsigned_kept; pinned by
-   vstd_integers/Pinned.pinned_option; refused signed8_sums/checked_add_unsigned.first_summand, rise_refused. */
+   vstd_integers/Pinned.pinned_option; refused signed_sums/checked_add_unsigned.first_summand, rise_refused. */
 pb_answer_isize pb_isize_checked_add_unsigned(ptrdiff_t x, size_t y);
 
 /* The difference `x - y`. Refused where it is not from -9223372036854775808 to 9223372036854775807.
    Cited by rows A28; clause vstd_integers/Signed.checked_sub; contract promisebook_isize::pb_isize_checked_sub; law
    vstd_integers/Signed.checked_sub_kept; pinned by vstd_integers/Pinned.pinned_option; refused
-   signed8_sums/checked_sub.least_refused, other_way_round, signed64_sums/checked_sub.other_signs_refused. */
+   signed_sums/checked_sub.least_refused, other_way_round, other_signs_refused. */
 pb_answer_isize pb_isize_checked_sub(ptrdiff_t x, ptrdiff_t y);
 
 /* The difference `x - y`. Refused where it is not from -9223372036854775808 to 9223372036854775807.
    Cited by rows A29; clause vstd_integers/Signed.checked_sub_unsigned; contract
    promisebook_isize::pb_isize_checked_sub_unsigned; law vstd_integers/Signed.checked_sub_unsigned_kept; pinned by
-   vstd_integers/Pinned.pinned_option; refused signed8_sums/checked_sub_unsigned.fall_refused, first_number. */
+   vstd_integers/Pinned.pinned_option; refused signed_sums/checked_sub_unsigned.fall_refused, first_number. */
 pb_answer_isize pb_isize_checked_sub_unsigned(ptrdiff_t x, size_t y);
 
 /* The product `x * y`. Refused where it is not from -9223372036854775808 to 9223372036854775807.
    Cited by rows A30; clause vstd_integers/Signed.checked_mul; contract promisebook_isize::pb_isize_checked_mul; law
    vstd_integers/Signed.checked_mul_kept; pinned by vstd_integers/Pinned.pinned_option; refused
-   signed8_sums/checked_mul.larger_quotient_taken, square. */
+   signed_sums/checked_mul.larger_quotient_taken, square. */
 pb_answer_isize pb_isize_checked_mul(ptrdiff_t x, ptrdiff_t y);
 
 /* The quotient of `x` by `y`, rounded towards zero. Refused where `y` is 0, and where `x` is -9223372036854775808
    and `y` is -1, since the quotient does not fit.
    Cited by rows A31; clause vstd_integers/Signed.checked_div; contract promisebook_isize::pb_isize_checked_div; law
    vstd_integers/Signed.checked_div_kept; pinned by vstd_integers/Pinned.pinned_option; refused
-   signed8_division/checked_div.least_by_minus_one_wraps, other_dividend, vstd_integers/checked_div.euclidean,
+   signed_division/checked_div.least_by_minus_one_wraps, other_dividend, vstd_integers/checked_div.euclidean,
    vstd_integers/divided_unless.least_by_minus_one_not_refused. */
 pb_answer_isize pb_isize_checked_div(ptrdiff_t x, ptrdiff_t y);
 
@@ -2044,7 +2039,7 @@ pb_answer_isize pb_isize_checked_div(ptrdiff_t x, ptrdiff_t y);
    -9223372036854775808 and `y` is -1, since the quotient does not fit.
    Cited by rows A32; clause vstd_integers/Signed.checked_div_euclid; contract
    promisebook_isize::pb_isize_checked_div_euclid; law vstd_integers/Signed.checked_div_euclid_kept; pinned by
-   vstd_integers/Pinned.pinned_option; refused signed8_division/checked_div_euclid.not_mended, towards_zero,
+   vstd_integers/Pinned.pinned_option; refused signed_division/checked_div_euclid.not_mended, towards_zero,
    promisebook_i8/checked_div_euclid.towards_zero. */
 pb_answer_isize pb_isize_checked_div_euclid(ptrdiff_t x, ptrdiff_t y);
 
@@ -2052,14 +2047,14 @@ pb_answer_isize pb_isize_checked_div_euclid(ptrdiff_t x, ptrdiff_t y);
    -9223372036854775808 and `y` is -1, since the quotient does not fit.
    Cited by rows A33; clause vstd_integers/Signed.checked_rem; contract promisebook_isize::pb_isize_checked_rem; law
    vstd_integers/Signed.checked_rem_kept; pinned by vstd_integers/Pinned.pinned_option; refused
-   signed8_division/checked_rem.euclidean, least_by_minus_one_is_0, promisebook_i8/checked_rem.euclidean. */
+   signed_division/checked_rem.euclidean, least_by_minus_one_is_0, promisebook_i8/checked_rem.euclidean. */
 pb_answer_isize pb_isize_checked_rem(ptrdiff_t x, ptrdiff_t y);
 
 /* The remainder of `x` by `y` that is not negative. Refused where `y` is 0, and where `x` is -9223372036854775808
    and `y` is -1, since the quotient does not fit.
    Cited by rows A34; clause vstd_integers/Signed.checked_rem_euclid; contract
    promisebook_isize::pb_isize_checked_rem_euclid; law vstd_integers/Signed.checked_rem_euclid_kept; pinned by
-   vstd_integers/Pinned.pinned_option; refused signed8_division/checked_rem_euclid.absolute_value, not_mended. */
+   vstd_integers/Pinned.pinned_option; refused signed_division/checked_rem_euclid.absolute_value, not_mended. */
 pb_answer_isize pb_isize_checked_rem_euclid(ptrdiff_t x, ptrdiff_t y);
 
 /* `x` itself.
@@ -2107,8 +2102,8 @@ bool pb_isize_ge(ptrdiff_t x, ptrdiff_t y);
 /* How `x` stands to `y`: less (-1), equal (0) or greater (1).
    Cited by rows A38; clause vstd_integers/Compare.cmp; contract promisebook_isize::pb_isize_cmp; law
    vstd_integers/Compare.cmp_kept; pinned by vstd_integers/Pinned.pinned_equation; refused
-   ordering/number.greater_is_0, less_is_1, unsigned8_order/compare.equal_is_greater, less_is_greater,
-   signed8_order/compare.equal_is_greater, less_is_greater. */
+   ordering/number.greater_is_0, less_is_1, unsigned_order/compare.equal_is_greater, less_is_greater,
+   signed_order/compare.equal_is_greater, less_is_greater. */
 int8_t pb_isize_cmp(ptrdiff_t x, ptrdiff_t y);
 
 /* How `x` stands to `y`: less (-1), equal (0) or greater (1). Never refused.
