@@ -1,7 +1,0 @@
-use native.Mathlib.Omega.{arith}
-use mathlib.Core.Path.{◌∙◌}
-use Rattle.theory_digits.proofs.Reading.{read_up_is}
-use Rattle.number_bytes64.proofs.loaded.Goals as goal
-
-pub returns : goal.returns
-returns c = c.joined.ensures ∙ read_up_is 256 7 _ (omega arith)

@@ -1,5 +1,0 @@
-use Rattle.theory_whole.proofs.Unsigned.{wraps_quotient}
-use Rattle.unsigned16_bits.proofs.wrapping_shr.Goals as goal
-
-pub returns : goal.returns
-returns c = wraps_quotient 16 _ c.ranges.a.fits

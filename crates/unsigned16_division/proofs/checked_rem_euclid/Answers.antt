@@ -1,6 +1,0 @@
-use Rattle.theory_whole.specs.Division.{ediv, ◌modulo◌}
-use Rattle.unsigned16_division.proofs.checked_rem_euclid.Goals as goal
-
-pub returns : goal.returns
-unfolding ediv ◌modulo◌
-returns c = c.checked_rem.ensures

@@ -1,8 +1,0 @@
-use Rattle.theory_whole.proofs.Unsigned.{clamps_answer, clamps_refusal}
-use Rattle.unsigned16_sums.proofs.saturating_mul.Goals as goal
-
-pub returns-then-product : goal.returns-then-product
-returns-then-product c = clamps_answer 16 _ _ _ c.checked_mul-product.ensures c.if-product.true
-
-pub returns-else-product : goal.returns-else-product
-returns-else-product c = clamps_refusal 16 _ _ _ c.checked_mul-product.ensures c.if-product.false

@@ -1,5 +1,0 @@
-use Rattle.theory_whole.proofs.Unsigned.{wraps_quotient}
-use Rattle.unsigned64_bits.proofs.wrapping_shr.Goals as goal
-
-pub returns : goal.returns
-returns c = wraps_quotient 64 _ c.ranges.a.fits

@@ -1,8 +1,0 @@
-use Rattle.theory_whole.proofs.Unsigned.{division_refused, division_answers}
-use Rattle.unsigned64_division.proofs.checked_div.Goals as goal
-
-pub returns-then-b-eq0 : goal.returns-then-b-eq0
-returns-then-b-eq0 c = division_refused 64 c.args.a _ _ c.if-b-eq0.true
-
-pub returns-else-b-eq0 : goal.returns-else-b-eq0
-returns-else-b-eq0 c = division_answers 64 c.args.a _ _ c.if-b-eq0.false c.ranges.a.fits

@@ -1,6 +1,0 @@
-use Rattle.theory_whole.specs.Division.{ediv}
-use Rattle.unsigned64_division.proofs.checked_div_euclid.Goals as goal
-
-pub returns : goal.returns
-unfolding ediv
-returns c = c.checked_div.ensures

@@ -1,9 +1,0 @@
-use native.Mathlib.Omega.{arith}
-use Rattle.theory_whole.proofs.Unsigned.{wraps_same, wraps_over}
-use Rattle.unsigned8_sums.proofs.wrapping_add.Goals as goal
-
-pub returns-then-b-a : goal.returns-then-b-a
-returns-then-b-a c = wraps_same 8 _ _ (omega arith) (omega arith)
-
-pub returns-else-b-a : goal.returns-else-b-a
-returns-else-b-a c = wraps_over 8 _ _ (omega arith) (omega arith)

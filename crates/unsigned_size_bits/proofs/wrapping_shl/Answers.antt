@@ -1,5 +1,0 @@
-use Rattle.theory_whole.proofs.Unsigned.{wraps_remainder}
-use Rattle.unsigned_size_bits.proofs.wrapping_shl.Goals as goal
-
-pub returns : goal.returns
-returns c = wraps_remainder 64 _

@@ -1,7 +1,0 @@
-use mir.Syntax.{w64}
-use Rattle.theory_machine.proofs.Sums.{sum_with_signed}
-use Rattle.unsigned_size_sums.proofs.wrapping_add_signed.Goals as goal
-
-pub returns : goal.returns
-returns c =
-    sum_with_signed w64 c.args.a c.ranges.b c.wrapped.ensures c.wrapping_add.ensures
