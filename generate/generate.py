@@ -37,11 +37,15 @@ CODE = [integers, bench]
 FROM_THE_TABLE = [faces, statics, numbered, numbered_integers, numbered_bytes, spelled, help_text, edges, rust_integers, ask_lines, ask_page, counts, bindings]
 
 
-def stored(proved):
-    """The files of the folders that hold generated files alone, among them the proofs of the crates that templates prove."""
+def stored(proved, made):
+    """The files of the folders that hold generated files alone, among them the proofs of the crates that templates prove, but for those of a module that is
+    written by hand."""
     for crate in proved:
-        for place, _, files in os.walk(os.path.join(CRATES, crate, "proofs")):
-            yield from (os.path.join(place, file) for file in files)
+        proofs = os.path.join(CRATES, crate, "proofs")
+        for place, _, files in os.walk(proofs):
+            module = os.path.join(CRATES, crate, "src", os.path.relpath(place, proofs).split(os.sep)[0] + ".rt")
+            if module in made or not os.path.exists(module):
+                yield from (os.path.join(place, file) for file in files)
     for folder in bindings.WHOLE:
         yield from glob.glob(os.path.join(folder, "*"))
 
@@ -59,7 +63,7 @@ def main():
     if sys.argv[1:] == ["--list"]:
         print("\n".join(sorted(os.path.relpath(path, os.path.dirname(CRATES)) for path in made)))
         return
-    strays = sorted(set(stored(proved.union(faces.proved()))) - set(made))
+    strays = sorted(set(stored(proved.union(faces.proved()), made)) - set(made))
     changed = [path for path, text in made.items() if not os.path.exists(path) or read(path) != text]
     done = ("differs from what is generated", "is not generated") if check else ("written", "removed")
     for path in changed + strays:

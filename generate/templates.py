@@ -63,7 +63,6 @@ def words(width):
         "GREATEST": str(2**width.bits - 1),
         "HALF": str(2 ** (width.bits - 1)),
         "TOP": str(2 ** (width.bits - 1) - 1),
-        "WIDER": "u64" if width.has_wider else "u128",
         "MACHINE": "w%d" % width.bits,
     }
 

@@ -2,6 +2,7 @@
 // own: what one may be asked, and what it gives, stands here in whole numbers.
 #![tactic(auto)]
 
+mod halves;
 mod i16;
 mod i32;
 mod i64;

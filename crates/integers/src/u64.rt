@@ -34,7 +34,7 @@ impl Unsigned for u64 {
     }
 
     fn times(self, other: u64) -> u64 {
-        ((self as u128) * (other as u128) % 18446744073709551616) as u64
+        crate::halves::product(self, other)
     }
 
     fn to_u64(self) -> u64 {

@@ -34,7 +34,7 @@ impl Unsigned for usize {
     }
 
     fn times(self, other: usize) -> usize {
-        ((self as u128) * (other as u128) % 18446744073709551616) as usize
+        crate::halves::product(self as u64, other as u64) as usize
     }
 
     fn to_u64(self) -> u64 {

@@ -69,7 +69,8 @@ pub fn checked_sub<T: Signed>(a: T, b: T) -> Option<T>
     a.known();
     b.known();
     let difference = wrapping_sub(a, b);
-    if (a < b) != (difference < T::ZERO) {
+    let negative = a < T::ZERO;
+    if (negative != (b < T::ZERO)) & (negative != (difference < T::ZERO)) {
         None
     } else {
         Some(difference)

@@ -1,5 +1,6 @@
 pub mod Bits
 pub mod Signs
 pub mod Narrow
+pub mod Divisions
 pub mod Orders
 pub mod Shifts

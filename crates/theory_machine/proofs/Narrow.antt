@@ -4,14 +4,14 @@ use mathlib.Core.Bool.{true, false}
 use Prim.Native.Nat.{ℕ, ◌+◌, ◌/◌, ◌^◌, ◌≤◌, ◌<◌}
 use native.Mathlib.Omega.{arith}
 use lib.Pow.{pow_mono}
-use lib.IntN.{ℤ, pos, ◌+ℤ◌, +ℤ_comm}
+use lib.IntN.{ℤ, pos, ◌+ℤ◌, ◌-ℤ◌, +ℤ_comm}
 use mir.Syntax.{Width, w64}
 use mir.Val.{bits, SFits, to_z, of_z}
 use mir.Facts.{to_z-of_z}
 use Rattle.theory_whole.specs.Kind.{signed, unsigned}
 use Rattle.theory_answers.specs.Answer.{Answers}
 use Rattle.theory_whole.specs.Fit.{wrap, refuse}
-use Rattle.theory_whole.proofs.Halves.{up, down, sum}
+use Rattle.theory_whole.proofs.Halves.{up, down, sum, difference}
 use Rattle.theory_whole.proofs.Fits.{In, real_signed}
 use Rattle.theory_whole.proofs.Refuse.{accepts, refuses}
 use Rattle.theory_whole.proofs.Narrow.{narrow_in, narrow_out}
@@ -56,6 +56,13 @@ module _ (w : Width) (l : bits w < 62) where
         let j = in_signed w g in
         let s = sum a b in
         near_zero (wide a +ℤ wide b) (a +ℤ b) (rw (wide_is f, wide_is g)) (omega (arith, i.below, j.below)) (omega (arith, i.above, j.above))
+
+    pub difference_narrowed : Narrowed (wide a -ℤ wide b) (a -ℤ b)
+    difference_narrowed =
+        let i = in_signed w f in
+        let j = in_signed w g in
+        let s = difference a b in
+        near_zero (wide a -ℤ wide b) (a -ℤ b) (rw (wide_is f, wide_is g)) (omega (arith, i.below, j.above)) (omega (arith, i.above, j.below))
 
   module _ {z x : ℤ} (n : Narrowed z x) (u : ℕ) (e : pos u ≡ wrap (unsigned 64) (to_z w64 (of_z w64 (to_z w64 (of_z w64 z) +ℤ pos (2 ^ bits w / 2))))) where
     raised_is : pos u ≡ wrap (unsigned 64) (pos (2 ^ bits w / 2) +ℤ z)

@@ -2,12 +2,14 @@
 -- one less than its magnitude.
 use mathlib.Core.Path.{◌≡◌}
 use mathlib.Core.Bool.{true, false}
-use Prim.Native.Nat.{ℕ, suc, ◌-◌, ◌^◌, ◌<◌}
+use Prim.Native.Nat.{ℕ, suc, ◌+◌, ◌-◌, ◌^◌, ◌<◌}
 use native.Mathlib.Omega.{arith}
+use lib.Pow.{pow_pos}
+use lib.Dec.{T}
 use lib.IntN.{ℤ, pos, negsuc, nat_abs}
-use lib.Signed.{lt_z}
+use lib.Signed.{lt_z, non_neg}
 use mir.Syntax.{Width}
-use mir.Val.{bits, hbits, SFits, to_z, of_z}
+use mir.Val.{bits, hbits, Fits, SFits, to_z, of_z}
 use mir.Facts.{to_z-of_z, to_z_pos}
 use Rattle.theory_whole.specs.Kind.{unsigned}
 use Rattle.theory_whole.specs.Fit.{wrap}
@@ -40,9 +42,21 @@ module _ (w : Width) where
   flipped : {n : ℕ} → n < 2 ^ hbits w → to_z w (2 ^ bits w - 1 - of_z w (negsuc n)) ≡ pos n
   flipped {n} h = let e : 2 ^ bits w - 1 - (2 ^ bits w - suc n) ≡ n = omega (arith, halves w) in rw e (to_z_pos w h)
 
+  pub negative_cast : {a : ℤ} → Negative w a → T (non_neg (to_z w (2 ^ bits w - 1 - of_z w a))) × Fits w (nat_abs (to_z w (2 ^ bits w - 1 - of_z w a)))
+  negative_cast (negative h) = rw (flipped h) (tt, record { fits = omega (arith, halves w) })
+
   pub negative_bits : {a : ℤ} → Negative w a → pos (2 ^ bits w - 1 - nat_abs (to_z w (2 ^ bits w - 1 - of_z w a))) ≡ wrap (unsigned (bits w)) a
   negative_bits (negative {n} h) = rw (flipped h) (wraps_under (bits w) (negsuc n) (2 ^ bits w - 1 - n) (omega (arith, halves w)) (omega (arith, halves w)))
 
+  pub negative_magnitude : {a : ℤ} → Negative w a → nat_abs (to_z w (2 ^ bits w - 1 - of_z w a)) + 1 ≡ nat_abs a
+  negative_magnitude (negative h) = rw (flipped h) (omega arith)
+
+  pub negative_magnitude_fits : {a : ℤ} → Negative w a → Fits w (nat_abs (to_z w (2 ^ bits w - 1 - of_z w a)) + 1)
+  negative_magnitude_fits (negative h) = rw (flipped h) (record { fits = omega (arith, halves w, pow_pos (hbits w)) })
+
   -- ---- one that is not: `a` itself
+  pub natural_cast : {a : ℤ} → Natural w a → T (non_neg (to_z w (of_z w a))) × Fits w (nat_abs (to_z w (of_z w a)))
+  natural_cast (natural h) = rw (to_z_pos w h) (tt, record { fits = omega (arith, halves w) })
+
   pub natural_bits : {a : ℤ} → Natural w a → pos (nat_abs (to_z w (of_z w a))) ≡ wrap (unsigned (bits w)) a
   natural_bits (natural {n} h) = rw (to_z_pos w h) (wraps_same (bits w) (pos n) n (omega (arith, halves w)) (omega arith))

@@ -24,7 +24,7 @@ use Rattle.theory_whole.proofs.Fits.{In, real_unsigned, real_signed, in_fits, ou
 use Rattle.theory_whole.proofs.Wrap.{wrap_in, wrap_is, wrap_same, wrap_alike, wrap_op, wrap_again, wrapped_alike}
 use Rattle.theory_whole.proofs.Refuse.{accepts, divided_so, divided_not, divided_by_zero}
 use Rattle.theory_whole.proofs.Overflow.{Told, Near, told_below, told_above, sum_below, no_overflow, overflow}
-use Rattle.theory_whole.proofs.Signs.{negative, neither, sum_told_by_signs}
+use Rattle.theory_whole.proofs.Signs.{negative, neither, both_other, sum_told_by_signs, difference_told_by_signs}
 use Rattle.theory_whole.proofs.ByQuotient.{quotient_is_factor, quotient_is_other}
 use Rattle.theory_whole.proofs.Divisions.{agree, one_more, one_less}
 use Rattle.theory_whole.proofs.Quotients.{two_halves, quotients_in, minus_one_in, least_by_minus_one, quotients_alike, remainder_in}
@@ -144,6 +144,10 @@ module _ (w : ℕ) where
     pub sum_told : (b : ℤ) {s t u : Bool} → 0 < w → fits S b ≡ true → r ≡ wrap S (a +ℤ b) → s ≡ negative a → t ≡ negative b → u ≡ negative r
         → Told S (a +ℤ b) r (neither s t u)
     sum_told b some g e p q v = rw (p, q, v) (sum_told_by_signs (real_signed w) (sym (two_halves w some)) a r (inside f) b (inside g) e)
+
+    pub difference_told_by : (b : ℤ) {s t u : Bool} → 0 < w → fits S b ≡ true → r ≡ wrap S (a -ℤ b) → s ≡ negative a → t ≡ negative b → u ≡ negative r
+        → Told S (a -ℤ b) r (both_other s t u)
+    difference_told_by b some g e p q v = rw (p, q, v) (difference_told_by_signs (real_signed w) (sym (two_halves w some)) a r (inside f) b (inside g) e)
 
   pub fits_as_told : {z r : ℤ} {d : Bool} → Told S z r d → d ≡ false → Some r ≡ refuse S z
   fits_as_told told n = some_answer _ _ (no_overflow (real_signed w) told n)

@@ -1,15 +1,16 @@
--- A sum is told by signs, in a kind that reaches as far below 0 as above. Where the signs say that it lies between two numbers of the kind, it fits;
+-- A sum or a difference is told by signs, in a kind that reaches as far below 0 as above. Where the signs say that it lies between two numbers of the kind, it fits;
 -- else its own sign is known, and it fits exactly where what it wraps to has that sign.
-use mathlib.Core.Path.{◌≡◌, refl}
+use mathlib.Core.Path.{◌≡◌, refl, sym}
 use mathlib.Core.Bool.{Bool, true, false, not, ◌&&◌, beq}
 use Prim.Native.Nat.{◌+◌, ◌≤◌, ◌<◌}
 use native.Mathlib.Omega.{arith}
-use lib.IntN.{ℤ, pos, ◌+ℤ◌}
+use lib.IntN.{ℤ, pos, ◌+ℤ◌, ◌-ℤ◌}
 use lib.Signed.{lt_z}
+use borrow.Author.Tests.{not-true, not-false}
 use Rattle.theory_whole.specs.Kind.{Kind}
 use Rattle.theory_whole.specs.Fit.{wrap}
 use Rattle.theory_whole.proofs.Cases.{by_test}
-use Rattle.theory_whole.proofs.Halves.{up, down, sum, lt_yes, lt_no, is_lt, not_lt}
+use Rattle.theory_whole.proofs.Halves.{up, down, sum, difference, lt_yes, lt_no, is_lt, not_lt}
 use Rattle.theory_whole.proofs.Fits.{Real, In, in_fits}
 use Rattle.theory_whole.proofs.Overflow.{Told, told_below}
 
@@ -25,6 +26,10 @@ not_negative x h = not_lt x (pos 0) (omega arith)
 -- of a sum: neither summand has the sign of what it wraps to
 abbrev pub neither : Bool → Bool → Bool → Bool
 neither t u v = not (beq t v) && not (beq u v)
+
+-- of a difference: the second number has another sign than the first, and so has what it wraps to
+abbrev pub both_other : Bool → Bool → Bool → Bool
+both_other t u v = not (beq t u) && not (beq t v)
 
 module _ {k : Kind} (real : Real k) (z r : ℤ) (e : r ≡ wrap k z) where
   known_to_fit : {d : Bool} → In k z → d ≡ false → Told k z r d
@@ -47,6 +52,13 @@ signs_other true true = refl
 signs_other true false = refl
 signs_other false true = refl
 signs_other false false = refl
+
+-- a difference is a sum with the opposite number, whose sign is the other
+opposite : (t u v : Bool) → both_other t u v ≡ neither t (not u) v
+opposite true true v = sym (signs_other true v)
+opposite true false v = sym (signs_same true v)
+opposite false true v = sym (signs_same false v)
+opposite false false v = sym (signs_other false v)
 
 module _ {k : Kind} (real : Real k) (even : k.size ≡ k.low + k.low) (a r : ℤ) (i : In k a) where
   -- z lies up to half the size away from a, and u says on which side
@@ -76,3 +88,13 @@ module _ {k : Kind} (real : Real k) (even : k.size ≡ k.low + k.low) (a r : ℤ
         (λ y. omega (arith, lt_no b (pos 0) y))
         (omega (arith, j.below))
         (omega (arith, j.above))
+
+    pub difference_told_by_signs : r ≡ wrap k (a -ℤ b) → Told k (a -ℤ b) r (both_other (negative a) (negative b) (negative r))
+    difference_told_by_signs e =
+        let s = difference a b in
+        rw (opposite (negative a) (negative b) (negative r))
+        (told_by_signs (a -ℤ b) e (not (negative b))
+        (λ y. omega (arith, lt_no b (pos 0) (not-true (negative b) y)))
+        (λ y. omega (arith, lt_yes b (pos 0) (not-false (negative b) y)))
+        (omega (arith, j.above))
+        (omega (arith, j.below)))
