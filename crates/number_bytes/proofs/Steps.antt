@@ -1,7 +1,7 @@
 -- One byte more, read or put.
 use mathlib.Core.Path.{◌≡◌, ap, ◌∙◌}
 use mathlib.Core.List.{List, ◌++◌, append_assoc}
-use Prim.Native.Nat.{ℕ, ◌+◌, ◌-◌, ◌*◌, ◌/◌, ◌%◌, ◌^◌, ◌≤◌, ◌<◌}
+use Prim.Native.Nat.{ℕ, suc, ◌+◌, ◌-◌, ◌*◌, ◌/◌, ◌%◌, ◌^◌, ◌≤◌, ◌<◌}
 use native.Mathlib.Nat.{mul_comm, pow-suc, div-div-eq-div-mul, mod-eq_of_lt}
 use native.Mathlib.Numerals.{add-one}
 use native.Mathlib.Omega.{arith}
@@ -15,8 +15,8 @@ use Rattle.theory_lists.specs.Bounds.{AllBelow}
 use Rattle.theory_lists.specs.Written.{written, Writes}
 use Rattle.theory_lists.proofs.Below.{all_below, below_take}
 use Rattle.theory_digits.specs.Digits.{digits, value, digits_high, value_high}
-use Rattle.theory_digits.proofs.Digits.{length_digits, digits_below, value_below, digits_of_value}
-use Rattle.theory_digits.proofs.High.{value_high_push_lowest, value_high_below, digits_high_below, length_digits_high}
+use Rattle.theory_digits.proofs.Digits.{length_digits, digits_below, value_below, digits_of_value, digits_append}
+use Rattle.theory_digits.proofs.High.{value_high_push_lowest, value_high_below, value_high_append, digits_high_below, digits_high_push_highest, length_digits_high}
 use Rattle.theory_digits.proofs.Parts.{value_push_highest, digits_push_highest}
 use Rattle.theory_digits.proofs.Bases.{power_of_power, base_of_bits}
 
@@ -61,12 +61,36 @@ turned_fits k n h =
     let fits : 256 ^ k ≤ 2 ^ 64 = in_64_bits k h in
     omega arith
 
+-- the j lowest before the k next
+pub turned_parts : (j k n : ℕ) → value_high 256 (digits 256 j n) * 256 ^ k + value_high 256 (digits 256 k (n / 256 ^ j)) ≡ value_high 256 (digits 256 (j + k) n)
+turned_parts j k n = rw (digits_append 256 j k n, value_high_append 256 (digits 256 j n) (digits 256 k (n / 256 ^ j)), length_digits 256 k (n / 256 ^ j))
+
+pub turned_below : (k n : ℕ) → value_high 256 (digits 256 k n) < 256 ^ k
+turned_below k n =
+    let v = value_high_below 256 (digits 256 k n) (digits_below 256 k n (omega arith)) in
+    (rw (length_digits 256 k n) at v)
+
+pub one_turned : (n : ℕ) → value_high 256 (digits 256 1 n) ≡ n % 256
+unfolding digits value
+one_turned n = omega arith
+
 -- ---- put, lowest first
 
 pub put_on : (room : List ℕ) (k n : ℕ) → k < length room
     → set (digits 256 k n ++ drop k room) k (n / 256 ^ k % 256) ≡ digits 256 (k + 1) n ++ drop (k + 1) room
 put_on room k n h =
     rw (drop-cons room k 0 h, set_at (digits 256 k n) (get_or room k 0) _ (n / 256 ^ k % 256) k (length_digits 256 k n), add-one, digits_push_highest, append_assoc)
+
+-- ---- put, highest first: from the last place to the first
+
+pub put_before : (room : List ℕ) (n i x : ℕ) → n ≡ length room → i < n
+    → set (take (n - i) room ++ digits_high 256 i x) (n - 1 - i) (x / 256 ^ i % 256) ≡ take (n - (i + 1)) room ++ digits_high 256 (i + 1) x
+put_before room n i x l h =
+    let m = n - 1 - i in
+    let one : n - i ≡ suc m = omega arith in
+    let left : n - (i + 1) ≡ m = omega arith in
+    let held : length (take m room) ≡ m = length-take-le m room (omega arith) in
+    rw (one, left, take-suc room m 0 (omega arith), append_assoc, set_at (take m room) (get_or room m 0) (digits_high 256 i x) (x / 256 ^ i % 256) m held, add-one, digits_high_push_highest)
 
 -- ---- all the bytes of a number fit into it
 

@@ -30,8 +30,21 @@ fn joined(s: &[u8]) -> u64
     x
 }
 
-// So many of the lowest bytes, the other way round: one swap.
+// So many of the lowest bytes, the other way round. Two, four and eight are written out: each is one swap, which the compiler sees before it joins the answer's
+// flag to it.
 fn turned(x: u64, count: usize) -> u64
+    requires { count ≤ 8 }
+    ensures { result ≡ value_high 256 (digits 256 count x) }
+{
+    match count {
+        2 => turned_2(x),
+        4 => turned_4(x),
+        8 => turned_8(x),
+        _ => turned_one_by_one(x, count),
+    }
+}
+
+fn turned_one_by_one(x: u64, count: usize) -> u64
     requires { count ≤ 8 }
     ensures { result ≡ value_high 256 (digits 256 count x) }
 {
@@ -42,6 +55,24 @@ fn turned(x: u64, count: usize) -> u64
         left /= 256;
     }
     turned
+}
+
+fn turned_2(x: u64) -> u64
+    ensures { result ≡ value_high 256 (digits 256 2 x) }
+{
+    x % 256 * 256 + x / 256 % 256
+}
+
+fn turned_4(x: u64) -> u64
+    ensures { result ≡ value_high 256 (digits 256 4 x) }
+{
+    turned_2(x) * 65536 + turned_2(x / 65536)
+}
+
+fn turned_8(x: u64) -> u64
+    ensures { result ≡ value_high 256 (digits 256 8 x) }
+{
+    turned_4(x) * 4294967296 + turned_4(x / 4294967296)
 }
 
 // As many bytes as there is room for.
@@ -58,8 +89,12 @@ fn put_le(room: &mut [u8], x: u64)
 fn put_be(room: &mut [u8], x: u64)
     ensures { room.new ≡ digits_high 256 (length room.old) x }
 {
-    put_le(room, x);
-    room.reverse();
+    // By place, from the last to the first.
+    let mut left = x;
+    for i in 0..room.len() {
+        room[room.len() - 1 - i] = (left % 256) as u8;
+        left /= 256;
+    }
 }
 
 // Whether so many bytes fit into a slice at a place.

@@ -3,7 +3,7 @@ use Prim.Native.Nat.{◌+◌}
 use native.Mathlib.Omega.{arith}
 use Rattle.theory_digits.specs.Digits.{digits, value}
 use Rattle.number_bytes.proofs.Steps.{divided_on, turned_on, turned_fits}
-use Rattle.number_bytes.proofs.turned.Goals as goal
+use Rattle.number_bytes.proofs.turned_one_by_one.Goals as goal
 
 pub loop-init : goal.loop-init
 unfolding digits value

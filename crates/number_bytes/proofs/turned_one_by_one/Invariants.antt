@@ -1,7 +1,7 @@
 use mathlib.Core.Path.{◌≡◌}
 use Prim.Native.Nat.{◌/◌, ◌^◌}
 use Rattle.theory_digits.specs.Digits.{digits, value_high}
-use Rattle.number_bytes.proofs.turned.Given as goal
+use Rattle.number_bytes.proofs.turned_one_by_one.Given as goal
 
 abbrev pub invariant-loop : goal.invariant-loop
 invariant-loop l = record {
