@@ -2,7 +2,7 @@
 
 ghost use Rattle.std.specs.Prelude.{◌≡◌, true, false, MatchOption};
 
-use std::ops::Range;
+use parts::Part;
 
 #[repr(C)]
 #[derive(Clone, Copy)]
@@ -12,17 +12,17 @@ pub struct BytesRange {
     pub to: usize,
 }
 
-impl From<Option<Range<usize>>> for BytesRange {
+impl From<Option<Part>> for BytesRange {
     ghost from_gives = { λ answer result. MatchOption answer
         ((result.ok ≡ false) × ((result.from ≡ 0) × (result.to ≡ 0)))
-        (λ part. (result.ok ≡ true) × ((result.from ≡ part.start) × (result.to ≡ part.end))) };
+        (λ part. (result.ok ≡ true) × ((result.from ≡ part.from) × (result.to ≡ part.to))) };
 
-    fn from(answer: Option<Range<usize>>) -> BytesRange {
+    fn from(answer: Option<Part>) -> BytesRange {
         match answer {
             Some(part) => BytesRange {
                 ok: true,
-                from: part.start,
-                to: part.end,
+                from: part.from,
+                to: part.to,
             },
             None => BytesRange {
                 ok: false,
@@ -43,18 +43,18 @@ pub struct BytesSplit {
     pub to: usize,
 }
 
-impl From<Option<(Range<usize>, Range<usize>)>> for BytesSplit {
+impl From<Option<(Part, Part)>> for BytesSplit {
     ghost from_gives = { λ answer result. MatchOption answer
         ((result.ok ≡ false) × ((result.from ≡ 0) × (result.middle ≡ 0) × (result.to ≡ 0)))
-        (λ parts. (result.ok ≡ true) × ((result.from ≡ parts.0.start) × (result.middle ≡ parts.0.end) × (result.to ≡ parts.1.end))) };
+        (λ parts. (result.ok ≡ true) × ((result.from ≡ parts.0.from) × (result.middle ≡ parts.0.to) × (result.to ≡ parts.1.to))) };
 
-    fn from(answer: Option<(Range<usize>, Range<usize>)>) -> BytesSplit {
+    fn from(answer: Option<(Part, Part)>) -> BytesSplit {
         match answer {
             Some((front, back)) => BytesSplit {
                 ok: true,
-                from: front.start,
-                middle: front.end,
-                to: back.end,
+                from: front.from,
+                middle: front.to,
+                to: back.to,
             },
             None => BytesSplit {
                 ok: false,
@@ -75,18 +75,18 @@ pub struct BytesFirstAndRest {
     pub to: usize,
 }
 
-impl From<Option<(u8, Range<usize>)>> for BytesFirstAndRest {
+impl From<Option<(u8, Part)>> for BytesFirstAndRest {
     ghost from_gives = { λ answer result. MatchOption answer
         ((result.ok ≡ false) × ((result.first ≡ 0) × (result.from ≡ 0) × (result.to ≡ 0)))
-        (λ parts. (result.ok ≡ true) × ((result.first ≡ parts.0) × (result.from ≡ parts.1.start) × (result.to ≡ parts.1.end))) };
+        (λ parts. (result.ok ≡ true) × ((result.first ≡ parts.0) × (result.from ≡ parts.1.from) × (result.to ≡ parts.1.to))) };
 
-    fn from(answer: Option<(u8, Range<usize>)>) -> BytesFirstAndRest {
+    fn from(answer: Option<(u8, Part)>) -> BytesFirstAndRest {
         match answer {
             Some((first, rest)) => BytesFirstAndRest {
                 ok: true,
                 first,
-                from: rest.start,
-                to: rest.end,
+                from: rest.from,
+                to: rest.to,
             },
             None => BytesFirstAndRest {
                 ok: false,

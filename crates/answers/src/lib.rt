@@ -9,6 +9,15 @@ mod bytes;
 
 pub use bytes::{BytesFirstAndRest, BytesRange, BytesSplit};
 
+// The call keeps `into` a branch until an export is one piece of code, where each way to an answer goes straight to its flag and its value. Without it, or as a
+// From behind the library's own `into`, the value is chosen by the flag after both are made.
+#[inline(always)]
+fn itself<T>(value: T) -> T
+    ensures { result ≡ value }
+{
+    value
+}
+
 #[repr(C)]
 #[derive(Clone, Copy)]
 pub struct AnswerU8 {
@@ -16,12 +25,13 @@ pub struct AnswerU8 {
     pub value: u8,
 }
 
-impl From<Option<u8>> for AnswerU8 {
-    ghost from_gives = { λ answer result. Flagged result.ok result.value 0 answer };
+impl Into<AnswerU8> for Option<u8> {
+    ghost converts = { λ answer result. Flagged result.ok result.value 0 answer };
 
-    fn from(answer: Option<u8>) -> AnswerU8 {
-        match answer {
-            Some(value) => AnswerU8 { ok: true, value },
+    #[inline(always)]
+    fn into(self) -> AnswerU8 {
+        match self {
+            Some(value) => itself(AnswerU8 { ok: true, value }),
             None => AnswerU8 {
                 ok: false,
                 value: 0,
@@ -37,12 +47,13 @@ pub struct AnswerU16 {
     pub value: u16,
 }
 
-impl From<Option<u16>> for AnswerU16 {
-    ghost from_gives = { λ answer result. Flagged result.ok result.value 0 answer };
+impl Into<AnswerU16> for Option<u16> {
+    ghost converts = { λ answer result. Flagged result.ok result.value 0 answer };
 
-    fn from(answer: Option<u16>) -> AnswerU16 {
-        match answer {
-            Some(value) => AnswerU16 { ok: true, value },
+    #[inline(always)]
+    fn into(self) -> AnswerU16 {
+        match self {
+            Some(value) => itself(AnswerU16 { ok: true, value }),
             None => AnswerU16 {
                 ok: false,
                 value: 0,
@@ -58,12 +69,13 @@ pub struct AnswerU32 {
     pub value: u32,
 }
 
-impl From<Option<u32>> for AnswerU32 {
-    ghost from_gives = { λ answer result. Flagged result.ok result.value 0 answer };
+impl Into<AnswerU32> for Option<u32> {
+    ghost converts = { λ answer result. Flagged result.ok result.value 0 answer };
 
-    fn from(answer: Option<u32>) -> AnswerU32 {
-        match answer {
-            Some(value) => AnswerU32 { ok: true, value },
+    #[inline(always)]
+    fn into(self) -> AnswerU32 {
+        match self {
+            Some(value) => itself(AnswerU32 { ok: true, value }),
             None => AnswerU32 {
                 ok: false,
                 value: 0,
@@ -79,12 +91,13 @@ pub struct AnswerU64 {
     pub value: u64,
 }
 
-impl From<Option<u64>> for AnswerU64 {
-    ghost from_gives = { λ answer result. Flagged result.ok result.value 0 answer };
+impl Into<AnswerU64> for Option<u64> {
+    ghost converts = { λ answer result. Flagged result.ok result.value 0 answer };
 
-    fn from(answer: Option<u64>) -> AnswerU64 {
-        match answer {
-            Some(value) => AnswerU64 { ok: true, value },
+    #[inline(always)]
+    fn into(self) -> AnswerU64 {
+        match self {
+            Some(value) => itself(AnswerU64 { ok: true, value }),
             None => AnswerU64 {
                 ok: false,
                 value: 0,
@@ -100,12 +113,13 @@ pub struct AnswerUsize {
     pub value: usize,
 }
 
-impl From<Option<usize>> for AnswerUsize {
-    ghost from_gives = { λ answer result. Flagged result.ok result.value 0 answer };
+impl Into<AnswerUsize> for Option<usize> {
+    ghost converts = { λ answer result. Flagged result.ok result.value 0 answer };
 
-    fn from(answer: Option<usize>) -> AnswerUsize {
-        match answer {
-            Some(value) => AnswerUsize { ok: true, value },
+    #[inline(always)]
+    fn into(self) -> AnswerUsize {
+        match self {
+            Some(value) => itself(AnswerUsize { ok: true, value }),
             None => AnswerUsize {
                 ok: false,
                 value: 0,
@@ -121,12 +135,13 @@ pub struct AnswerI8 {
     pub value: i8,
 }
 
-impl From<Option<i8>> for AnswerI8 {
-    ghost from_gives = { λ answer result. Flagged result.ok result.value (pos 0) answer };
+impl Into<AnswerI8> for Option<i8> {
+    ghost converts = { λ answer result. Flagged result.ok result.value (pos 0) answer };
 
-    fn from(answer: Option<i8>) -> AnswerI8 {
-        match answer {
-            Some(value) => AnswerI8 { ok: true, value },
+    #[inline(always)]
+    fn into(self) -> AnswerI8 {
+        match self {
+            Some(value) => itself(AnswerI8 { ok: true, value }),
             None => AnswerI8 {
                 ok: false,
                 value: 0,
@@ -142,12 +157,13 @@ pub struct AnswerI16 {
     pub value: i16,
 }
 
-impl From<Option<i16>> for AnswerI16 {
-    ghost from_gives = { λ answer result. Flagged result.ok result.value (pos 0) answer };
+impl Into<AnswerI16> for Option<i16> {
+    ghost converts = { λ answer result. Flagged result.ok result.value (pos 0) answer };
 
-    fn from(answer: Option<i16>) -> AnswerI16 {
-        match answer {
-            Some(value) => AnswerI16 { ok: true, value },
+    #[inline(always)]
+    fn into(self) -> AnswerI16 {
+        match self {
+            Some(value) => itself(AnswerI16 { ok: true, value }),
             None => AnswerI16 {
                 ok: false,
                 value: 0,
@@ -163,12 +179,13 @@ pub struct AnswerI32 {
     pub value: i32,
 }
 
-impl From<Option<i32>> for AnswerI32 {
-    ghost from_gives = { λ answer result. Flagged result.ok result.value (pos 0) answer };
+impl Into<AnswerI32> for Option<i32> {
+    ghost converts = { λ answer result. Flagged result.ok result.value (pos 0) answer };
 
-    fn from(answer: Option<i32>) -> AnswerI32 {
-        match answer {
-            Some(value) => AnswerI32 { ok: true, value },
+    #[inline(always)]
+    fn into(self) -> AnswerI32 {
+        match self {
+            Some(value) => itself(AnswerI32 { ok: true, value }),
             None => AnswerI32 {
                 ok: false,
                 value: 0,
@@ -184,12 +201,13 @@ pub struct AnswerI64 {
     pub value: i64,
 }
 
-impl From<Option<i64>> for AnswerI64 {
-    ghost from_gives = { λ answer result. Flagged result.ok result.value (pos 0) answer };
+impl Into<AnswerI64> for Option<i64> {
+    ghost converts = { λ answer result. Flagged result.ok result.value (pos 0) answer };
 
-    fn from(answer: Option<i64>) -> AnswerI64 {
-        match answer {
-            Some(value) => AnswerI64 { ok: true, value },
+    #[inline(always)]
+    fn into(self) -> AnswerI64 {
+        match self {
+            Some(value) => itself(AnswerI64 { ok: true, value }),
             None => AnswerI64 {
                 ok: false,
                 value: 0,
@@ -205,12 +223,13 @@ pub struct AnswerIsize {
     pub value: isize,
 }
 
-impl From<Option<isize>> for AnswerIsize {
-    ghost from_gives = { λ answer result. Flagged result.ok result.value (pos 0) answer };
+impl Into<AnswerIsize> for Option<isize> {
+    ghost converts = { λ answer result. Flagged result.ok result.value (pos 0) answer };
 
-    fn from(answer: Option<isize>) -> AnswerIsize {
-        match answer {
-            Some(value) => AnswerIsize { ok: true, value },
+    #[inline(always)]
+    fn into(self) -> AnswerIsize {
+        match self {
+            Some(value) => itself(AnswerIsize { ok: true, value }),
             None => AnswerIsize {
                 ok: false,
                 value: 0,
@@ -226,12 +245,13 @@ pub struct AnswerBool {
     pub value: bool,
 }
 
-impl From<Option<bool>> for AnswerBool {
-    ghost from_gives = { λ answer result. Flagged result.ok result.value false answer };
+impl Into<AnswerBool> for Option<bool> {
+    ghost converts = { λ answer result. Flagged result.ok result.value false answer };
 
-    fn from(answer: Option<bool>) -> AnswerBool {
-        match answer {
-            Some(value) => AnswerBool { ok: true, value },
+    #[inline(always)]
+    fn into(self) -> AnswerBool {
+        match self {
+            Some(value) => itself(AnswerBool { ok: true, value }),
             None => AnswerBool {
                 ok: false,
                 value: false,

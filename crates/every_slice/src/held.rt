@@ -1,5 +1,6 @@
 // Each operation held against the rule: true where it answers as it must.
 use crate::rule::{Change, agree, at, changed_so, fill, is_part, least, minus, occurs, plus};
+use parts::Part;
 
 fn lengths(s: &[u8], f: usize, t: usize) -> bool {
     let ok = is_part(s, f, t);
@@ -19,12 +20,24 @@ fn elements(s: &[u8], f: usize, t: usize, i: usize) -> bool {
 fn split_right(s: &[u8], f: usize, t: usize, m: usize) -> bool {
     let ok = is_part(s, f, t) & (m <= minus(t, f));
     let middle = plus(f, m);
-    slices_parts::split_at(s, f, t, m) == ok.then_some((f..middle, middle..t))
+    let front = Part {
+        from: f,
+        to: middle,
+    };
+    let back = Part {
+        from: middle,
+        to: t,
+    };
+    slices_parts::split_at(s, f, t, m) == ok.then_some((front, back))
 }
 
 fn split_first_right(s: &[u8], f: usize, t: usize) -> bool {
     let ok = is_part(s, f, t) & (f < t);
-    slices::split_first(s, f, t) == ok.then_some((at(s, f), plus(f, 1)..t))
+    let rest = Part {
+        from: plus(f, 1),
+        to: t,
+    };
+    slices::split_first(s, f, t) == ok.then_some((at(s, f), rest))
 }
 
 fn sub_slice_right(s: &[u8], f: usize, t: usize) -> bool {
@@ -40,9 +53,17 @@ fn sub_slice_right(s: &[u8], f: usize, t: usize) -> bool {
 fn parts(s: &[u8], f: usize, t: usize, a: usize, e: usize) -> bool {
     let ok = is_part(s, f, t);
     let inside = ok & (a <= e) & (e <= minus(t, f));
-    let piece = ok & (f < t) & (0 < a);
-    slices_parts::sub_range(s, f, t, a, e) == inside.then_some(plus(f, a)..plus(f, e))
-        && slices_parts::next_piece(s, f, t, a) == piece.then_some(f..least(plus(f, a), t))
+    let range = Part {
+        from: plus(f, a),
+        to: plus(f, e),
+    };
+    let some = ok & (f < t) & (0 < a);
+    let piece = Part {
+        from: f,
+        to: least(plus(f, a), t),
+    };
+    slices_parts::sub_range(s, f, t, a, e) == inside.then_some(range)
+        && slices_parts::next_piece(s, f, t, a) == some.then_some(piece)
         && split_right(s, f, t, a)
         && split_first_right(s, f, t)
         && sub_slice_right(s, f, t)

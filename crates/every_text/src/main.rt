@@ -220,7 +220,7 @@ fn is_split_around(s: &[u8]) -> bool {
             return false;
         }
         if let Some((front, back)) = split {
-            if front.start != 0 || front.end != at || back.start != at || back.end != s.len() {
+            if front.from != 0 || front.to != at || back.from != at || back.to != s.len() {
                 return false;
             }
         }

@@ -6,7 +6,7 @@ ghost use Rattle.std.specs.Prelude.{◌≡◌, ◌+◌, ◌-◌, ◌<◌, length
 ghost use Rattle.theory_answers.specs.Says.{Tells};
 ghost use Rattle.theory_lists.specs.Part.{part, Within};
 
-use std::ops::Range;
+use parts::Part;
 
 pub fn len(s: &[u8], from: usize, to: usize) -> Option<usize>
     ensures { SomeIff result (Within from to s.now) (length (part from to s.now)) }
@@ -39,9 +39,9 @@ pub fn last(s: &[u8], from: usize, to: usize) -> Option<u8>
 }
 
 // The first element, and where the others are.
-pub fn split_first(s: &[u8], from: usize, to: usize) -> Option<(u8, Range<usize>)>
-    ensures { SomeIff result (Within from to s.now × (from < to)) (get_or (part from to s.now) 0 0, record { start = from + 1; end = to }) }
+pub fn split_first(s: &[u8], from: usize, to: usize) -> Option<(u8, Part)>
+    ensures { SomeIff result (Within from to s.now × (from < to)) (get_or (part from to s.now) 0 0, record { from = from + 1; to = to }) }
 {
     let (first, _) = s.get(from..to)?.split_first()?;
-    Some((*first, from + 1..to))
+    Some((*first, Part { from: from + 1, to }))
 }

@@ -5,32 +5,38 @@
 ghost use Rattle.std.specs.Prelude.{◌≡◌, ◌+◌, ◌-◌, ◌≤◌, ◌<◌, min, SomeIff};
 ghost use Rattle.theory_lists.specs.Part.{Within, part_or_none};
 
-use std::ops::Range;
+use parts::Part;
 
-pub fn sub_range(s: &[u8], from: usize, to: usize, a: usize, e: usize) -> Option<Range<usize>>
-    ensures { SomeIff result (Within from to s.now × (a ≤ e) × (e ≤ to - from)) (record { start = from + a; end = from + e }) }
+pub fn sub_range(s: &[u8], from: usize, to: usize, a: usize, e: usize) -> Option<Part>
+    ensures { SomeIff result (Within from to s.now × (a ≤ e) × (e ≤ to - from)) (record { from = from + a; to = from + e }) }
 {
     s.get(from..to)?.get(a..e)?;
-    Some(from + a..from + e)
+    Some(Part {
+        from: from + a,
+        to: from + e,
+    })
 }
 
-pub fn split_at(s: &[u8], from: usize, to: usize, m: usize) -> Option<(Range<usize>, Range<usize>)>
-    ensures { SomeIff result (Within from to s.now × (m ≤ to - from)) (record { start = from; end = from + m }, record { start = from + m; end = to }) }
+pub fn split_at(s: &[u8], from: usize, to: usize, m: usize) -> Option<(Part, Part)>
+    ensures { SomeIff result (Within from to s.now × (m ≤ to - from)) (record { from = from; to = from + m }, record { from = from + m; to = to }) }
 {
     s.get(from..to)?.get(..m)?;
     let middle = from + m;
-    Some((from..middle, middle..to))
+    Some((Part { from, to: middle }, Part { from: middle, to }))
 }
 
 // The first piece of n; the last may be shorter. The next one begins where it ends.
-pub fn next_piece(s: &[u8], from: usize, to: usize, n: usize) -> Option<Range<usize>>
-    ensures { SomeIff result (Within from to s.now × (from < to) × (0 < n)) (record { start = from; end = min (from + n) to }) }
+pub fn next_piece(s: &[u8], from: usize, to: usize, n: usize) -> Option<Part>
+    ensures { SomeIff result (Within from to s.now × (from < to) × (0 < n)) (record { from = from; to = min (from + n) to }) }
 {
     let part = s.get(from..to)?;
     if part.is_empty() || n == 0 {
         return None;
     }
-    Some(from..from + n.min(part.len()))
+    Some(Part {
+        from,
+        to: from + n.min(part.len()),
+    })
 }
 
 // The part itself, and no bytes on refusal.

@@ -3,7 +3,7 @@
 
 ghost use Rattle.std.specs.Prelude.{◌≡◌, true, false, MatchOption};
 
-use std::ops::Range;
+use parts::Part;
 use text_read::Read;
 
 // A scalar value, and the length of its form.
@@ -43,15 +43,15 @@ pub struct TextSplit {
     pub end: usize,
 }
 
-impl From<Option<(Range<usize>, Range<usize>)>> for TextSplit {
-    ghost from_gives = { λ answer result. MatchOption answer ((result.ok ≡ false) × ((result.middle ≡ 0) × (result.end ≡ 0))) (λ parts. (result.ok ≡ true) × ((result.middle ≡ parts.0.end) × (result.end ≡ parts.1.end))) };
+impl From<Option<(Part, Part)>> for TextSplit {
+    ghost from_gives = { λ answer result. MatchOption answer ((result.ok ≡ false) × ((result.middle ≡ 0) × (result.end ≡ 0))) (λ parts. (result.ok ≡ true) × ((result.middle ≡ parts.0.to) × (result.end ≡ parts.1.to))) };
 
-    fn from(answer: Option<(Range<usize>, Range<usize>)>) -> TextSplit {
+    fn from(answer: Option<(Part, Part)>) -> TextSplit {
         match answer {
             Some((front, back)) => TextSplit {
                 ok: true,
-                middle: front.end,
-                end: back.end,
+                middle: front.to,
+                end: back.to,
             },
             None => TextSplit {
                 ok: false,

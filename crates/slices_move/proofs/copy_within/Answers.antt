@@ -1,4 +1,5 @@
 use borrow.Author.Rules.{rules}
+use native.Mathlib.Omega.{arith}
 use mathlib.Core.Path.{◌≡◌, ap, ◌∙◌}
 use Prim.Native.Nat.{ℕ}
 use Rattle.theory_lists.specs.Part.{part}
@@ -10,5 +11,5 @@ pub returns-then-n-eq0 : goal.returns-then-n-eq0
 returns-then-n-eq0 c =
     let a = c.args in
     let s = a.s.now in
-    let e : a.from ≡ a.to = search rules in
-    record { asked = search rules; given = copied_none s s a.from a.at ∙ ap (λ (t : ℕ). written s a.at (part a.from t s)) e }
+    let e : a.from ≡ a.to = omega arith in
+    record { asked = (search rules, omega arith); given = copied_none s s a.from a.at ∙ ap (λ (t : ℕ). written s a.at (part a.from t s)) e }
