@@ -6,8 +6,8 @@ use Prim.Native.Nat.{ℕ, ◌+◌, ◌-◌, ◌*◌, ◌/◌, ◌%◌, ◌^◌, 
 use native.Mathlib.Omega.{arith}
 use native.Mathlib.Nat.{zero-add, add-sub_cancel_left}
 use lib.Dec.{eqb, ltb}
-use lib.ListN.{length, get_or, take, drop, length-take}
-use lib.Seq.{take-add, take_all, drop-drop, drop-cons, get_or-take, get_or-drop}
+use lib.ListN.{length, get_or, take, drop}
+use lib.Seq.{take-add, drop-drop, drop-cons}
 use borrow.Author.Tests.{eqb-true, ltb-true}
 use Rattle.theory_whole.proofs.Cases.{by_test, both_are}
 use Rattle.theory_lists.specs.Bounds.{between}
@@ -101,23 +101,20 @@ later_read s i x place r h m p e = rw e (by_test (eqb (x % 64) 0) (λ t. rw t (m
 pub read_none : (s : List ℕ) → ReadFrom s 0
 read_none s = record { inside = omega arith; same = refl }
 
-pub moves_on : (s : List ℕ) (i n x y z : ℕ) → Moves s 0 i x y → Moves s i n y z → Moves s 0 (i + n) x z
-moves_on s i n x y z f g = moves_join s 0 i n x y z f (subst (λ (k : ℕ). Moves s k n y z) (sym (zero-add i)) g)
-
--- byte by byte, of all that is there
-pub moves_next : (s : List ℕ) (i x y z : ℕ) → i < length s → Moves s 0 i x y → Good z → state z ≡ step (state y) (get_or s i 0) → Moves s 0 (i + 1) x z
-moves_next s i x y z h m g e = moves_on s i 1 x y z m (moves_one s i y z h g e)
-
--- of a part, as the code takes it
-pub moves_part : (s : List ℕ) (i n : ℕ) {x y : ℕ} → i + n ≤ length s → Moves (take n (drop i s)) 0 (length (take n (drop i s))) x y → Moves s i n x y
-moves_part s i n {x} h m =
-    let p = take n (drop i s) in
-    record { good = m.good; moved = m.moved ∙ ap (steps (state x)) (take_all (length p) p (omega arith)) }
+-- by places
+pub moves_next : (s : List ℕ) (from i x y z : ℕ) → from ≤ i → i < length s → Moves s from (i - from) x y → Good z → state z ≡ step (state y) (get_or s i 0) → Moves s from (i + 1 - from) x z
+moves_next s from i x y z l h m g e =
+    let p : from + (i - from) ≡ i = omega arith in
+    let q : i - from + 1 ≡ i + 1 - from = omega arith in
+    subst (λ (n : ℕ). Moves s from n x z) q (moves_join s from (i - from) 1 x y z m (subst (λ (k : ℕ). Moves s k 1 y z) (sym p) (moves_one s i y z h g e)))
 
 -- four quarters are a block
 pub moves_quarters : (s : List ℕ) (i x x1 x2 x3 y : ℕ) → Moves s i 16 x x1 → Moves s (i + 16) 16 x1 x2 → Moves s (i + 32) 16 x2 x3 → Moves s (i + 48) 16 x3 y → Moves s i 64 x y
 moves_quarters s i x x1 x2 x3 y a b c d =
     moves_join s i 48 16 x x3 y (moves_join s i 32 16 x x2 x3 (moves_join s i 16 16 x x1 x2 a b) c) d
+
+pub moves_on : (s : List ℕ) (i n x y z : ℕ) → Moves s 0 i x y → Moves s i n y z → Moves s 0 (i + n) x z
+moves_on s i n x y z f g = moves_join s 0 i n x y z f (subst (λ (k : ℕ). Moves s k n y z) (sym (zero-add i)) g)
 
 pub moves_whole : (s : List ℕ) (i x y : ℕ) → i ≤ length s → Moves s 0 i 0 x → Moves s i (length s - i) x y → Moves s 0 (length s) 0 y
 moves_whole s i x y h f g =

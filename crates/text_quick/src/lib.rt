@@ -18,13 +18,15 @@ fn next(t: &[u64; 256], b: u8, x: u64) -> u64
     t[b as usize] >> (x % 64)
 }
 
-fn bytes(t: &[u64; 256], s: &[u8], x: u64) -> u64
-    requires { (t.now ≡ table) × Good x }
-    ensures { Moves s.now 0 (length s.now) x result }
+fn bytes(t: &[u64; 256], s: &[u8], from: usize, to: usize, x: u64) -> u64
+    requires { (t.now ≡ table) × (Good x × ((from ≤ to) × (to ≤ length s.now))) }
+    ensures { Moves s.now from (to - from) x result }
 {
     let mut y = x;
-    for byte in s {
-        y = next(t, *byte, y);
+    let mut i = from;
+    while i < to {
+        y = next(t, s[i], y);
+        i += 1;
     }
     y
 }
@@ -36,7 +38,7 @@ fn quarter(t: &[u64; 256], s: &[u8], from: usize, x: u64) -> u64
     if x % 64 == 0 && text_ascii::ascii_block(s, from, 16) {
         return 0;
     }
-    bytes(t, &s[from..from + 16], x)
+    bytes(t, s, from, from + 16, x)
 }
 
 // Where a block is not all ASCII, only the quarters that are not go byte by byte.
@@ -77,6 +79,6 @@ pub fn text_before(s: &[u8]) -> usize
             return place;
         }
     }
-    x = bytes(&t, &s[i..], x);
+    x = bytes(&t, s, i, s.len(), x);
     later(x, s.len(), place)
 }

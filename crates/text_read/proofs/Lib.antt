@@ -1,4 +1,4 @@
-pub mod Rows
+pub mod Tested
 pub mod Padding
 pub mod Backwards
 pub mod Answered

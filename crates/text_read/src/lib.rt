@@ -7,6 +7,7 @@ ghost use Rattle.theory_text.specs.Text.{Begins, Ends};
 ghost use Rattle.theory_text.specs.Table.{first};
 ghost use Rattle.theory_text.specs.Reading.{decoded};
 ghost use Rattle.theory_text.specs.Boundary.{Back};
+ghost use Rattle.text_read.specs.Asked.{Leads};
 ghost use Rattle.text_read.specs.Reads.{Reads};
 
 // A scalar and how many bytes its form has.
@@ -16,32 +17,134 @@ pub struct Read {
     pub length: usize,
 }
 
-// How many bytes the form has that the four begin with: the nine rows of the Unicode Standard's table 3-7.
-#[tactic(auto, using(crate::proofs::Rows::rows))]
-fn length_of(bytes: [u8; 4]) -> Option<usize>
-    ensures { SomeIff result (0 < first bytes) (first bytes) }
+#[derive(Clone, Copy)]
+struct Lead {
+    bytes: usize,
+    low: u8,
+    high: u8,
+}
+
+// The row of the table that a first byte chooses, by comparisons: a match becomes a jump by a table, and takes up to 1.7 times as long.
+fn row_of(b: u8) -> Lead
+    ensures { Leads b result.bytes result.low result.high }
 {
-    match bytes {
-        [0..=0x7f, ..] => Some(1),
-        [0xc2..=0xdf, 0x80..=0xbf, ..] => Some(2),
-        [0xe0, 0xa0..=0xbf, 0x80..=0xbf, _] => Some(3),
-        [0xe1..=0xec | 0xee..=0xef, 0x80..=0xbf, 0x80..=0xbf, _] => Some(3),
-        [0xed, 0x80..=0x9f, 0x80..=0xbf, _] => Some(3),
-        [0xf0, 0x90..=0xbf, 0x80..=0xbf, 0x80..=0xbf] => Some(4),
-        [0xf1..=0xf3, 0x80..=0xbf, 0x80..=0xbf, 0x80..=0xbf] => Some(4),
-        [0xf4, 0x80..=0x8f, 0x80..=0xbf, 0x80..=0xbf] => Some(4),
-        _ => None,
+    if b < 0x80 {
+        return Lead {
+            bytes: 1,
+            low: 0,
+            high: 0,
+        };
+    }
+    if b < 0xc2 {
+        return Lead {
+            bytes: 0,
+            low: 0,
+            high: 0,
+        };
+    }
+    if b < 0xe0 {
+        return Lead {
+            bytes: 2,
+            low: 0x80,
+            high: 0xbf,
+        };
+    }
+    if b == 0xe0 {
+        return Lead {
+            bytes: 3,
+            low: 0xa0,
+            high: 0xbf,
+        };
+    }
+    if b < 0xed {
+        return Lead {
+            bytes: 3,
+            low: 0x80,
+            high: 0xbf,
+        };
+    }
+    if b == 0xed {
+        return Lead {
+            bytes: 3,
+            low: 0x80,
+            high: 0x9f,
+        };
+    }
+    if b < 0xf0 {
+        return Lead {
+            bytes: 3,
+            low: 0x80,
+            high: 0xbf,
+        };
+    }
+    if b == 0xf0 {
+        return Lead {
+            bytes: 4,
+            low: 0x90,
+            high: 0xbf,
+        };
+    }
+    if b < 0xf4 {
+        return Lead {
+            bytes: 4,
+            low: 0x80,
+            high: 0xbf,
+        };
+    }
+    if b == 0xf4 {
+        return Lead {
+            bytes: 4,
+            low: 0x80,
+            high: 0x8f,
+        };
+    }
+    Lead {
+        bytes: 0,
+        low: 0,
+        high: 0,
     }
 }
 
-// The value of the first n of the four.
-fn value_of(n: usize, bytes: [u8; 4]) -> u32
-    ensures { result ≡ decoded n bytes }
+// How many bytes the form has that the four begin with.
+#[inline(always)]
+fn length_of(b0: u8, b1: u8, b2: u8, b3: u8) -> Option<usize>
+    ensures { SomeIff result (0 < first (b0 ∷ b1 ∷ b2 ∷ b3 ∷ [])) (first (b0 ∷ b1 ∷ b2 ∷ b3 ∷ [])) }
 {
-    let b0 = u32::from(bytes[0]);
-    let b1 = u32::from(bytes[1]);
-    let b2 = u32::from(bytes[2]);
-    let b3 = u32::from(bytes[3]);
+    let row = row_of(b0);
+    let n = row.bytes;
+    if n == 0 {
+        return None;
+    }
+    if n == 1 {
+        return Some(1);
+    }
+    if b1 < row.low || row.high < b1 {
+        return None;
+    }
+    if n == 2 {
+        return Some(2);
+    }
+    if b2 / 64 != 2 {
+        return None;
+    }
+    if n == 3 {
+        return Some(3);
+    }
+    if b3 / 64 != 2 {
+        return None;
+    }
+    Some(4)
+}
+
+// The value of the first n of the four.
+#[inline(always)]
+fn value_of(n: usize, b0: u8, b1: u8, b2: u8, b3: u8) -> u32
+    ensures { result ≡ decoded n (b0 ∷ b1 ∷ b2 ∷ b3 ∷ []) }
+{
+    let b0 = u32::from(b0);
+    let b1 = u32::from(b1);
+    let b2 = u32::from(b2);
+    let b3 = u32::from(b3);
     match n {
         0 => 0,
         1 => b0,
@@ -52,27 +155,39 @@ fn value_of(n: usize, bytes: [u8; 4]) -> u32
 }
 
 // The byte at a place, and 0 past the end.
+#[inline(always)]
 fn byte_at(s: &[u8], at: usize) -> u8
     ensures { result ≡ get_or s.now at 0 }
 {
     s.get(at).copied().unwrap_or(0)
 }
 
-// The first four bytes, where those past the end are 0; none of no bytes.
-fn four(s: &[u8]) -> Option<[u8; 4]>
-    ensures { SomeIff result (0 < length s.now) (get_or s.now 0 0 ∷ get_or s.now 1 0 ∷ get_or s.now 2 0 ∷ get_or s.now 3 0 ∷ []) }
+// How many bytes the form has that the slice begins with.
+#[inline(always)]
+fn first_of(s: &[u8]) -> Option<usize>
+    ensures { SomeIff result (0 < first s.now) (first s.now) }
 {
     if s.is_empty() {
         return None;
     }
-    Some([byte_at(s, 0), byte_at(s, 1), byte_at(s, 2), byte_at(s, 3)])
+    length_of(s[0], byte_at(s, 1), byte_at(s, 2), byte_at(s, 3))
+}
+
+// The value of its first n bytes.
+#[inline(always)]
+fn value_at(s: &[u8], n: usize) -> u32
+    requires { 0 < length s.now }
+    ensures { result ≡ decoded n s.now }
+{
+    value_of(n, s[0], byte_at(s, 1), byte_at(s, 2), byte_at(s, 3))
 }
 
 // How many bytes the form has that begins at a place.
+#[inline(always)]
 pub fn first_at(s: &[u8], at: usize) -> Option<usize>
     ensures { SomeIff result (0 < first (drop at s.now)) (first (drop at s.now)) }
 {
-    length_of(four(s.get(at..)?)?)
+    first_of(s.get(at..)?)
 }
 
 fn front(s: &[u8]) -> Option<Read>
@@ -85,10 +200,9 @@ fn front(s: &[u8]) -> Option<Read>
             length: 1,
         });
     }
-    let bytes = four(s)?;
-    let length = length_of(bytes)?;
+    let length = first_of(s)?;
     Some(Read {
-        value: value_of(length, bytes),
+        value: value_at(s, length),
         length,
     })
 }
@@ -113,12 +227,12 @@ fn end(s: &[u8]) -> Option<Read>
         return None;
     }
     let length = back(s);
-    let bytes = four(&s[s.len() - length..])?;
-    if length_of(bytes)? != length {
+    let form = &s[s.len() - length..];
+    if first_of(form)? != length {
         return None;
     }
     Some(Read {
-        value: value_of(length, bytes),
+        value: value_at(form, length),
         length,
     })
 }

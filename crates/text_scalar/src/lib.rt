@@ -34,18 +34,10 @@ pub fn scalar_len(c: u32) -> Option<usize>
 pub fn is_white_space(c: u32) -> bool
     ensures { Says result (Has c white_space) }
 {
-    matches!(
-        c,
-        0x9..=0xd
-            | 0x20
-            | 0x85
-            | 0xa0
-            | 0x1680
-            | 0x2000..=0x200a
-            | 0x2028
-            | 0x2029
-            | 0x202f
-            | 0x205f
-            | 0x3000
-    )
+    match c {
+        0..0x80 => matches!(c, 0x9..=0xd | 0x20),
+        0x80..0x2000 => matches!(c, 0x85 | 0xa0 | 0x1680),
+        0x2000..=0x200a => true,
+        _ => matches!(c, 0x2028 | 0x2029 | 0x202f | 0x205f | 0x3000),
+    }
 }

@@ -9,7 +9,7 @@ ghost use Rattle.theory_text.specs.Scalar.{follows};
 ghost use Rattle.theory_text.specs.Boundary.{Boundary, Splits, started};
 ghost use Rattle.text_valid.specs.Onward.{Onward};
 
-use std::ops::Range;
+use parts::Part;
 
 // The next place to read from: past a run of ASCII, or past one scalar.
 fn next_place(s: &[u8], at: usize) -> Option<usize>
@@ -105,11 +105,17 @@ pub fn is_boundary(s: &[u8], at: usize) -> Option<bool>
 }
 
 // Both parts of a text, split at a boundary. Refused: no text, past the end, or inside a scalar.
-pub fn split_at(s: &[u8], at: usize) -> Option<(Range<usize>, Range<usize>)>
-    ensures { SomeIff result (Splits s.now at) (record { start = 0; end = at }, record { start = at; end = length s.now }) }
+pub fn split_at(s: &[u8], at: usize) -> Option<(Part, Part)>
+    ensures { SomeIff result (Splits s.now at) (record { from = 0; to = at }, record { from = at; to = length s.now }) }
 {
     if is_boundary(s, at)? {
-        Some((0..at, at..s.len()))
+        Some((
+            Part { from: 0, to: at },
+            Part {
+                from: at,
+                to: s.len(),
+            },
+        ))
     } else {
         None
     }

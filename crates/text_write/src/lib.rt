@@ -9,7 +9,9 @@ fn put<const N: usize>(out: &mut [u8], at: usize, bytes: [u8; N])
     requires { at + N ≤ length out.old }
     ensures { out.new ≡ written out.old at bytes.entry }
 {
-    out[at..at + N].copy_from_slice(&bytes);
+    for (k, byte) in bytes.iter().enumerate() {
+        out[at + k] = *byte;
+    }
 }
 
 // The last digit in base 64, behind its mark.

@@ -1,6 +1,6 @@
 use Prim.Native.Nat.{◌+◌, ◌-◌}
 use mathlib.Core.Path.{◌≡◌}
-use Rattle.text_quick.proofs.Rule.{moves_ascii, moves_part}
+use Rattle.text_quick.proofs.Rule.{moves_ascii}
 use native.Mathlib.Omega.{arith}
 use Rattle.text_quick.proofs.quarter.Goals as goal
 
@@ -14,4 +14,4 @@ pub returns : goal.returns
 returns c =
     let a = c.args in
     let e : a.from + 16 - a.from ≡ 16 = omega arith in
-    moves_part a.s.now a.from 16 c.requires.1.1 (rw e at c.bytes.ensures)
+    rw e at c.bytes.ensures

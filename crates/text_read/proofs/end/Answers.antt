@@ -5,7 +5,6 @@ use lib.Seq.{take_all}
 use mathlib.Core.Path.{◌≡◌, sym, ◌∙◌}
 use borrow.Author.Tests.{eqb-true}
 use Rattle.theory_text.proofs.ReadIs.{end_none, end_some, end_empty}
-use Rattle.text_read.proofs.Padding.{four_first, four_decoded}
 use native.Mathlib.Omega.{arith}
 use Rattle.text_read.proofs.end.Goals as goal
 
@@ -16,23 +15,24 @@ last s k = take_all (length s - (length s - k)) (drop (length s - k) s) (omega (
 pub returns-then-is_empty : goal.returns-then-is_empty
 returns-then-is_empty c = let s = c.args.s.now in end_empty s (eqb-true (length s) 0 (sym c.is_empty.ensures ∙ c.if-is_empty.true))
 
-pub returns-in_err-length_of : goal.returns-in_err-length_of
-returns-in_err-length_of c =
+pub returns-in_err-first_of : goal.returns-in_err-first_of
+returns-in_err-first_of c =
     let s = c.args.s.now in
     let b = c.back-length in
-    let e = four_first _ _ (rw (last s b.result) at c.in_ok-bytes.ensures) in
-    rw c.from_residual-in_err-length_of.ensures (end_none s b.result b.ensures (λ q. omega (arith, b.ensures.some, c.in_err-length_of.ensures, e, q)))
+    let f = rw (last s b.result) at c.in_err-first_of.ensures in
+    rw c.from_residual.ensures (end_none s b.result b.ensures (λ q. omega (arith, b.ensures.some, f, q)))
 
 pub returns-then-branch-length : goal.returns-then-branch-length
 returns-then-branch-length c =
     let s = c.args.s.now in
     let b = c.back-length in
-    let e = four_first _ _ (rw (last s b.result) at c.in_ok-bytes.ensures) in
-    end_none s b.result b.ensures (λ q. c.if-branch-length.true (c.in_ok-length_of.ensures.1 ∙ e ∙ q))
+    let f = rw (last s b.result) at c.in_ok-first_of.ensures in
+    end_none s b.result b.ensures (λ q. c.if-branch-length.true (f.1 ∙ q))
 
 pub returns : goal.returns
 returns c =
     let s = c.args.s.now in
     let b = c.back-length in
-    let f = rw (last s b.result) at c.in_ok-bytes.ensures in
-    end_some s b.result b.ensures _ (sym (c.in_ok-length_of.ensures.1 ∙ four_first _ _ f) ∙ c.if-branch-length.false) (c.value_of.ensures ∙ four_decoded _ _ f b.result)
+    let f = rw (last s b.result) at c.in_ok-first_of.ensures in
+    let v = rw (last s b.result) at c.value_at.ensures in
+    end_some s b.result b.ensures _ (sym f.1 ∙ c.if-branch-length.false) v
