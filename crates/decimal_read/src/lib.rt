@@ -30,12 +30,11 @@ fn pushed(n: u64, c: u8) -> Option<u64>
 fn read_u64(s: &[u8], from: usize, to: usize) -> Option<u64>
     ensures { option_map pos result ≡ said.natural_in (unsigned 64) from to s.now }
 {
-    let text = s.get(from..to)?;
-    if text.is_empty() {
+    if s.len() < to || to <= from {
         return None;
     }
     let mut n = 0;
-    for c in text {
+    for c in &s[from..to] {
         n = pushed(n, *c)?;
     }
     Some(n)
@@ -44,5 +43,6 @@ fn read_u64(s: &[u8], from: usize, to: usize) -> Option<u64>
 pub fn read<T: Unsigned>(s: &[u8], from: usize, to: usize) -> Option<T>
     ensures { option_map (λ r. pos (T.whole r)) result ≡ said.natural_in (unsigned T.bits) from to s.now }
 {
-    T::from_u64(read_u64(s, from, to)?)
+    let n = read_u64(s, from, to)?;
+    T::from_u64(n)
 }

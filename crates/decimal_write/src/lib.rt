@@ -13,14 +13,11 @@ fn places_of_four(n: u64) -> usize
     requires { n < 10000 }
     ensures { result ≡ text.places 10 n }
 {
-    if n < 10 {
-        1
-    } else if n < 100 {
-        2
-    } else if n < 1000 {
-        3
-    } else {
-        4
+    match n {
+        0..=9 => 1,
+        10..=99 => 2,
+        100..=999 => 3,
+        _ => 4,
     }
 }
 
