@@ -394,8 +394,8 @@ def answers():
 
     report("1a structs with `ok: bool` first, laid out for C", [one.place for one in flags if one.for_c])
     report("1a structs with `ok: bool` first, others", [one.place for one in flags if not one.for_c])
-    functions("1b functions that answer one of them (but for those of an impl From)",
-              lambda function: answers_one(function) and not function.trait.startswith("From"))
+    functions("1b functions that answer one of them (but for those of an impl From or Into)",
+              lambda function: answers_one(function) and not function.trait.startswith(("From", "Into")))
     functions("1b exports that answer one of them", answers_one, EXPORTS)
     functions("1b functions that answer a tuple with a bool first", lambda function: function.answer.startswith("(bool,"))
     functions("1b functions that answer Option", lambda function: re.match(r"(\w+::)*Option<", function.answer))

@@ -75,11 +75,13 @@ def converter(export):
     elif not isinstance(answer, Struct):
         body = "    numbered::order(r)\n" if parts[0][1] == ORDER else "    numbered::found(%s)\n" % to_bits(export, answer, "r")
     elif parts[0][1] == ORDER:
-        body = "    if r.ok { numbered::order(r.value) } else { None }\n"
+        body = "    if r.ok || r.value != 0 {\n        numbered::order(r.value)\n    } else {\n        None\n    }\n"
     else:
         fields = dict(answer.fields)
+        shown = [part for part, letter in parts if letter != BYTES and not part.isdigit()]
+        hidden = ["r.%s != 0" % field for field in fields if field != "ok" and field not in shown]
         bits = ["0" if letter == BYTES else part if part.isdigit() else to_bits(export, fields[part], "r." + part) for part, letter in parts]
-        body = "    r.ok.then_some([%s])\n" % ", ".join((bits + ["0"] * SAID)[:SAID])
+        body = "    numbered::told(%s, [%s])\n" % (" || ".join(["r.ok", *hidden]), ", ".join((bits + ["0"] * SAID)[:SAID]))
     return name, function("fn %s(r: %s) -> Option<Parts>" % (name, export.gives), body)
 
 

@@ -120,13 +120,15 @@ fn got<R: Read>(input: &mut R, block: &mut [u8]) -> usize
     }
 }
 
-// Answers each line that ends in the block, and holds what is left behind the last.
+// Answers each line that ends in the block, and holds what is left behind the last. Where a write fails, the lines of the block are answered all the same, and
+// nothing is read any more.
 fn answer_block<W: Write>(
     block: &[u8],
     line: &mut Line,
     answers: &mut Answers,
     output: &mut W,
 ) -> io::Result<()> {
+    let mut written = Ok(());
     for piece in block.split_inclusive(|b| *b == b'\n') {
         match piece {
             [text @ .., b'\n'] => {
@@ -134,11 +136,11 @@ fn answer_block<W: Write>(
                 answers.add(line.question());
                 line.clear();
                 if HALF <= answers.used {
-                    answers.write_out(output)?;
+                    written = written.and(answers.write_out(output));
                 }
             }
             _ => line.gather(piece),
         }
     }
-    Ok(())
+    written
 }

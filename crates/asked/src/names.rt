@@ -1,11 +1,12 @@
 // Every NAME there is: which kind or family it names, and which operation of it.
 use numbered::{Group, Name, Operation};
+use words::places;
 
 // What the word is the name of, if it is one. Operations of several groups may share a name.
 pub fn read(word: &[u8]) -> Option<Name> {
-    let mut parts = word.splitn(2, |b| *b == b'.');
-    let group = group(parts.next()?)?;
-    operation(group, parts.next()?)
+    let dot = places::first_from(word, 0, b'.');
+    let group = group(word.get(..dot)?)?;
+    operation(group, word.get(dot..)?.get(1..)?)
 }
 
 fn group(name: &[u8]) -> Option<Group> {

@@ -77,18 +77,22 @@ fn wrong_16(x: u16) -> u32
 
 fn every_8(rt: &impl Print) -> io::Result<()> {
     let mut wrong: u32 = 0;
+    let mut tried: u32 = 0;
     for x in 0..256u32 {
         wrong += wrong_8(x as u8);
+        tried += 4;
     }
-    line(rt, "zeros and ones, 8 bits", 4 * 256, wrong)
+    line(rt, "zeros and ones, 8 bits", tried, wrong)
 }
 
 fn every_16(rt: &impl Print) -> io::Result<()> {
     let mut wrong: u32 = 0;
+    let mut tried: u32 = 0;
     for x in 0..65536u32 {
         wrong += wrong_16(x as u16);
+        tried += 4;
     }
-    line(rt, "zeros and ones, 16 bits", 4 * 65536, wrong)
+    line(rt, "zeros and ones, 16 bits", tried, wrong)
 }
 
 // ---- bytes, there and back in both orders
@@ -128,29 +132,35 @@ fn trip_64(x: u64) -> u32
 
 fn trips_16(rt: &impl Print) -> io::Result<()> {
     let mut wrong: u32 = 0;
+    let mut tried: u32 = 0;
     for x in 0..65536u32 {
         wrong += trip_16(x as u16);
+        tried += 2;
     }
-    line(rt, "there and back, 16 bits", 2 * 65536, wrong)
+    line(rt, "there and back, 16 bits", tried, wrong)
 }
 
 // A single one, ones at the low end, and ones at the high end.
 fn trips_32(rt: &impl Print) -> io::Result<()> {
     let mut wrong: u32 = 0;
+    let mut tried: u32 = 0;
     for k in 0..32u32 {
         let low = u32::MAX >> k;
         wrong += trip_32(1 << k) + trip_32(low) + trip_32(!low);
+        tried += 6;
     }
-    line(rt, "there and back, edges of 32 bits", 6 * 32, wrong)
+    line(rt, "there and back, edges of 32 bits", tried, wrong)
 }
 
 fn trips_64(rt: &impl Print) -> io::Result<()> {
     let mut wrong: u32 = 0;
+    let mut tried: u32 = 0;
     for k in 0..64u32 {
         let low = u64::MAX >> k;
         wrong += trip_64(1 << k) + trip_64(low) + trip_64(!low);
+        tried += 6;
     }
-    line(rt, "there and back, edges of 64 bits", 6 * 64, wrong)
+    line(rt, "there and back, edges of 64 bits", tried, wrong)
 }
 
 // What a byte of 24, each of them 170, should be once eight bytes are written from a place on, or refused.

@@ -903,6 +903,11 @@ pub const EQUAL: u64 = 1;
 
 pub const GREATER: u64 = 2;
 
+// The parts of an answer with a flag. A refusal has 0 in each; one that had not would be told as an answer, and seen by whoever compares.
+pub fn told(ok: bool, parts: Parts) -> Option<Parts> {
+    (ok || parts != [0; 4]).then_some(parts)
+}
+
 // An answer of one part.
 pub fn found(first: u64) -> Option<Parts> {
     Some([first, 0, 0, 0])

@@ -101,27 +101,27 @@ fn reading_bytes_place_place_bytes(
 }
 
 fn as_place(r: answers::AnswerUsize) -> Option<Parts> {
-    r.ok.then_some([r.value as u64, 0, 0, 0])
+    numbered::told(r.ok, [r.value as u64, 0, 0, 0])
 }
 
 fn as_verdict(r: answers::AnswerBool) -> Option<Parts> {
-    r.ok.then_some([numbered::bit(r.value), 0, 0, 0])
+    numbered::told(r.ok, [numbered::bit(r.value), 0, 0, 0])
 }
 
 fn as_byte(r: answers::AnswerU8) -> Option<Parts> {
-    r.ok.then_some([r.value as u64, 0, 0, 0])
+    numbered::told(r.ok, [r.value as u64, 0, 0, 0])
 }
 
 fn as_bytes_first_and_rest(r: answers::BytesFirstAndRest) -> Option<Parts> {
-    r.ok.then_some([r.first as u64, r.from as u64, r.to as u64, 0])
+    numbered::told(r.ok, [r.first as u64, r.from as u64, r.to as u64, 0])
 }
 
 fn as_bytes_split(r: answers::BytesSplit) -> Option<Parts> {
-    r.ok.then_some([r.from as u64, r.middle as u64, r.to as u64, 0])
+    numbered::told(r.ok, [r.from as u64, r.middle as u64, r.to as u64, 0])
 }
 
 fn as_bytes_range(r: answers::BytesRange) -> Option<Parts> {
-    r.ok.then_some([r.from as u64, r.to as u64, 0, 0])
+    numbered::told(r.ok, [r.from as u64, r.to as u64, 0, 0])
 }
 
 fn as_done(r: bool) -> Option<Parts> {

@@ -69,7 +69,7 @@ fn as_test(r: bool) -> Option<Parts> {
 }
 
 fn as_place(r: answers::AnswerUsize) -> Option<Parts> {
-    r.ok.then_some([r.value as u64, 0, 0, 0])
+    numbered::told(r.ok, [r.value as u64, 0, 0, 0])
 }
 
 fn as_usize(r: usize) -> Option<Parts> {
@@ -77,17 +77,17 @@ fn as_usize(r: usize) -> Option<Parts> {
 }
 
 fn as_text_read(r: text_answers::TextRead) -> Option<Parts> {
-    r.ok.then_some([r.value as u64, r.length as u64, 0, 0])
+    numbered::told(r.ok, [r.value as u64, r.length as u64, 0, 0])
 }
 
 fn as_place_said_out(r: answers::AnswerUsize) -> Option<Parts> {
-    r.ok.then_some([0, 0, 0, 0])
+    numbered::told(r.ok || r.value != 0, [0, 0, 0, 0])
 }
 
 fn as_verdict(r: answers::AnswerBool) -> Option<Parts> {
-    r.ok.then_some([numbered::bit(r.value), 0, 0, 0])
+    numbered::told(r.ok, [numbered::bit(r.value), 0, 0, 0])
 }
 
 fn as_text_split_said_0_middle_end(r: text_answers::TextSplit) -> Option<Parts> {
-    r.ok.then_some([0, r.middle as u64, r.end as u64, 0])
+    numbered::told(r.ok, [0, r.middle as u64, r.end as u64, 0])
 }

@@ -45,7 +45,7 @@ fn writing_number(operation: Operation, x: u32, s: &mut [u8], at: usize) -> Opti
 }
 
 fn as_checked(r: answers::AnswerU32) -> Option<Parts> {
-    r.ok.then_some([r.value as u64, 0, 0, 0])
+    numbered::told(r.ok, [r.value as u64, 0, 0, 0])
 }
 
 fn as_done(r: bool) -> Option<Parts> {
@@ -53,5 +53,5 @@ fn as_done(r: bool) -> Option<Parts> {
 }
 
 fn as_place_said_s_value(r: answers::AnswerUsize) -> Option<Parts> {
-    r.ok.then_some([0, r.value as u64, 0, 0])
+    numbered::told(r.ok, [0, r.value as u64, 0, 0])
 }

@@ -28,9 +28,9 @@ fn reading(operation: Operation, s: &[u8], n: Numbers) -> Option<Parts> {
 }
 
 fn as_checked(r: answers::AnswerU8) -> Option<Parts> {
-    r.ok.then_some([r.value as u64, 0, 0, 0])
+    numbered::told(r.ok, [r.value as u64, 0, 0, 0])
 }
 
 fn as_place_said_s_value(r: answers::AnswerUsize) -> Option<Parts> {
-    r.ok.then_some([0, r.value as u64, 0, 0])
+    numbered::told(r.ok, [0, r.value as u64, 0, 0])
 }

@@ -87,7 +87,7 @@ fn as_number(r: i32) -> Option<Parts> {
 }
 
 fn as_checked(r: answers::AnswerI32) -> Option<Parts> {
-    r.ok.then_some([r.value.cast_unsigned() as u64, 0, 0, 0])
+    numbered::told(r.ok, [r.value.cast_unsigned() as u64, 0, 0, 0])
 }
 
 fn as_test(r: bool) -> Option<Parts> {
@@ -99,5 +99,9 @@ fn as_order(r: i8) -> Option<Parts> {
 }
 
 fn as_partial_ordering(r: answers::AnswerI8) -> Option<Parts> {
-    if r.ok { numbered::order(r.value) } else { None }
+    if r.ok || r.value != 0 {
+        numbered::order(r.value)
+    } else {
+        None
+    }
 }

@@ -98,7 +98,7 @@ fn as_number(r: u8) -> Option<Parts> {
 }
 
 fn as_checked(r: answers::AnswerU8) -> Option<Parts> {
-    r.ok.then_some([r.value as u64, 0, 0, 0])
+    numbered::told(r.ok, [r.value as u64, 0, 0, 0])
 }
 
 fn as_test(r: bool) -> Option<Parts> {
@@ -110,7 +110,11 @@ fn as_order(r: i8) -> Option<Parts> {
 }
 
 fn as_partial_ordering(r: answers::AnswerI8) -> Option<Parts> {
-    if r.ok { numbered::order(r.value) } else { None }
+    if r.ok || r.value != 0 {
+        numbered::order(r.value)
+    } else {
+        None
+    }
 }
 
 fn as_u32(r: u32) -> Option<Parts> {

@@ -1,4 +1,6 @@
 // The names nearest to one that does not exist: those that share most of its beginning and its end, and of these the shortest.
+ghost use Rattle.std.specs.Prelude.{◌≤◌, length, IfSome};
+
 use crate::said;
 use numbered::{Group, Name, Operation};
 use std::io::Write;
@@ -76,7 +78,9 @@ fn insert(found: &mut Nearest, near: Near) {
 }
 
 // None where there is no such name, or half of what was asked is not shared.
-fn nearness(asked: &[u8], name: Name) -> Option<Near> {
+fn nearness(asked: &[u8], name: Name) -> Option<Near>
+    ensures { IfSome result (λ near. (near.shared ≤ 128) × (near.length ≤ 64)) }
+{
     if !name.is_there() {
         return None;
     }
@@ -101,12 +105,16 @@ fn written(name: Name, room: &mut [u8]) -> usize {
 }
 
 // How many bytes both begin with.
-fn shared_front(a: &[u8], b: &[u8]) -> usize {
+fn shared_front(a: &[u8], b: &[u8]) -> usize
+    ensures { (result ≤ length a.now) × (result ≤ length b.now) }
+{
     a.iter().zip(b).take_while(|(x, y)| x == y).count()
 }
 
 // How many bytes both end with.
-fn shared_back(a: &[u8], b: &[u8]) -> usize {
+fn shared_back(a: &[u8], b: &[u8]) -> usize
+    ensures { (result ≤ length a.now) × (result ≤ length b.now) }
+{
     a.iter()
         .rev()
         .zip(b.iter().rev())

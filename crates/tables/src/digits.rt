@@ -1,4 +1,5 @@
 // Families B and C, zeros and ones and the bytes of a number: one line for each row of the tables.
+use answers::AnswerU64;
 use std::io;
 use std::io::Write;
 
@@ -27,9 +28,12 @@ fn bytes<W: Write>(out: &mut W, s: &[u8]) -> io::Result<()> {
 
 // A refusal is shown with the value that C reads of it.
 fn read<W: Write>(out: &mut W, answer: Option<u64>) -> io::Result<()> {
-    match answer {
-        Some(value) => writeln!(out, " 0x{value:016x}"),
-        None => writeln!(out, " refused, 0"),
+    let answer: AnswerU64 = answer.into();
+    let value = answer.value;
+    if answer.ok {
+        writeln!(out, " 0x{value:016x}")
+    } else {
+        writeln!(out, " refused, {value}")
     }
 }
 

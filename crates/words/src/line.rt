@@ -1,9 +1,10 @@
 // A line's words, with single spaces between: the NAME, and its arguments.
+use crate::places;
 
 // No question has more words.
 const MOST: usize = 6;
 
-// How many words there are, and the first MOST of them.
+// How many words there are, MOST + 1 where there are more, and the first MOST of them.
 #[derive(Clone, Copy)]
 pub struct Words<'a> {
     pub count: usize,
@@ -13,13 +14,20 @@ pub struct Words<'a> {
 impl<'a> Words<'a> {
     pub fn of(line: &'a [u8]) -> Words<'a> {
         let mut words: [&[u8]; MOST] = [b""; MOST];
-        for (k, word) in line.split(|b| *b == b' ').enumerate() {
-            if k < MOST {
-                words[k] = word;
+        let mut at = 0;
+        for k in 0..MOST {
+            let end = places::first_from(line, at, b' ');
+            words[k] = line.get(at..end).unwrap_or(b"");
+            if end == line.len() {
+                return Words {
+                    count: k + 1,
+                    words,
+                };
             }
+            at = end + 1;
         }
         Words {
-            count: line.split(|b| *b == b' ').count(),
+            count: MOST + 1,
             words,
         }
     }
