@@ -28,7 +28,7 @@
 #define PB_VERSION_PATCH 0
 #define PB_VERSION "0.2.0"
 
-#define PB_STACK_BYTES 2184
+#define PB_STACK_BYTES 2168
 
 #ifdef __cplusplus
 extern "C" {
@@ -156,7 +156,8 @@ uint8_t pb_u8_wrapping_sub(uint8_t x, uint8_t y);
 /* The product `x * y`, wrapped: the unsigned number of 8 bits that differs from it by a multiple of 2^8.
    Cited by rows A4; clause vstd_integers/Unsigned.wrapping_mul; contract promisebook_u8::pb_u8_wrapping_mul; law
    vstd_integers/Unsigned.wrapping_mul_kept; pinned by vstd_integers/Pinned.pinned_unsigned; refused
-   unsigned_sums/wrapping_mul.square, integers/wrapping_mul.modulo_255. */
+   unsigned_sums/wrapping_mul.square, integers/wrapping_mul.modulo_255, integers/product.one_cross_product_twice,
+   upper_half_left_out. */
 uint8_t pb_u8_wrapping_mul(uint8_t x, uint8_t y);
 
 /* `x` shifted to the left by `rhs` modulo 8: zeros come in, and what leaves the 8 bits is lost.
@@ -371,7 +372,8 @@ uint16_t pb_u16_wrapping_sub(uint16_t x, uint16_t y);
 /* The product `x * y`, wrapped: the unsigned number of 16 bits that differs from it by a multiple of 2^16.
    Cited by rows A4; clause vstd_integers/Unsigned.wrapping_mul; contract promisebook_u16::pb_u16_wrapping_mul; law
    vstd_integers/Unsigned.wrapping_mul_kept; pinned by vstd_integers/Pinned.pinned_unsigned; refused
-   unsigned_sums/wrapping_mul.square, integers/wrapping_mul.modulo_255. */
+   unsigned_sums/wrapping_mul.square, integers/wrapping_mul.modulo_255, integers/product.one_cross_product_twice,
+   upper_half_left_out. */
 uint16_t pb_u16_wrapping_mul(uint16_t x, uint16_t y);
 
 /* `x` shifted to the left by `rhs` modulo 16: zeros come in, and what leaves the 16 bits is lost.
@@ -618,7 +620,8 @@ uint32_t pb_u32_wrapping_sub(uint32_t x, uint32_t y);
 /* The product `x * y`, wrapped: the unsigned number of 32 bits that differs from it by a multiple of 2^32.
    Cited by rows A4; clause vstd_integers/Unsigned.wrapping_mul; contract promisebook_u32::pb_u32_wrapping_mul; law
    vstd_integers/Unsigned.wrapping_mul_kept; pinned by vstd_integers/Pinned.pinned_unsigned; refused
-   unsigned_sums/wrapping_mul.square, integers/wrapping_mul.modulo_255. */
+   unsigned_sums/wrapping_mul.square, integers/wrapping_mul.modulo_255, integers/product.one_cross_product_twice,
+   upper_half_left_out. */
 uint32_t pb_u32_wrapping_mul(uint32_t x, uint32_t y);
 
 /* `x` shifted to the left by `rhs` modulo 32: zeros come in, and what leaves the 32 bits is lost.
@@ -865,7 +868,8 @@ uint64_t pb_u64_wrapping_sub(uint64_t x, uint64_t y);
 /* The product `x * y`, wrapped: the unsigned number of 64 bits that differs from it by a multiple of 2^64.
    Cited by rows A4; clause vstd_integers/Unsigned.wrapping_mul; contract promisebook_u64::pb_u64_wrapping_mul; law
    vstd_integers/Unsigned.wrapping_mul_kept; pinned by vstd_integers/Pinned.pinned_unsigned; refused
-   unsigned_sums/wrapping_mul.square, integers/wrapping_mul.modulo_255. */
+   unsigned_sums/wrapping_mul.square, integers/wrapping_mul.modulo_255, integers/product.one_cross_product_twice,
+   upper_half_left_out. */
 uint64_t pb_u64_wrapping_mul(uint64_t x, uint64_t y);
 
 /* `x` shifted to the left by `rhs` modulo 64: zeros come in, and what leaves the 64 bits is lost.
@@ -1113,7 +1117,8 @@ size_t pb_usize_wrapping_sub(size_t x, size_t y);
 /* The product `x * y`, wrapped: the unsigned number of 64 bits that differs from it by a multiple of 2^64.
    Cited by rows A4; clause vstd_integers/Unsigned.wrapping_mul; contract promisebook_usize::pb_usize_wrapping_mul;
    law vstd_integers/Unsigned.wrapping_mul_kept; pinned by vstd_integers/Pinned.pinned_unsigned; refused
-   unsigned_sums/wrapping_mul.square, integers/wrapping_mul.modulo_255. */
+   unsigned_sums/wrapping_mul.square, integers/wrapping_mul.modulo_255, integers/product.one_cross_product_twice,
+   upper_half_left_out. */
 size_t pb_usize_wrapping_mul(size_t x, size_t y);
 
 /* `x` shifted to the left by `rhs` modulo 64: zeros come in, and what leaves the 64 bits is lost.

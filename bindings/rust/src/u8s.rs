@@ -69,7 +69,8 @@ pub fn wrapping_sub(x: u8, y: u8) -> u8 {
 ///
 /// Cited by rows A4; clause vstd_integers/Unsigned.wrapping_mul; contract promisebook_u8::pb_u8_wrapping_mul; law
 /// vstd_integers/Unsigned.wrapping_mul_kept; pinned by vstd_integers/Pinned.pinned_unsigned; refused
-/// unsigned_sums/wrapping_mul.square, integers/wrapping_mul.modulo_255.
+/// unsigned_sums/wrapping_mul.square, integers/wrapping_mul.modulo_255, integers/product.one_cross_product_twice,
+/// upper_half_left_out.
 #[inline]
 #[must_use]
 pub fn wrapping_mul(x: u8, y: u8) -> u8 {
