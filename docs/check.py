@@ -266,7 +266,7 @@ def check_words(text, library):
 
 
 def check_whole(rows, files, markdown, library):
-    """Every item taken up, every public function and every must-fail edit has a row, and the document is what the source makes."""
+    """Every item taken up, every public function and every must-fail edit has a row, but for those of programs, and the document is what the source makes."""
     covered = {item for row in rows for item in items(row) if not row.get("clause", "").startswith(EVERYWHERE)}
     said = {(item, clause) for row in rows for item in items(row) for clause in EVERYWHERE if row.get("clause", "").startswith(clause)}
     functions = {name for row in rows for field in ("export", "operation") for name in named(row, field)}
@@ -279,7 +279,7 @@ def check_whole(rows, files, markdown, library):
                 yield "docs/contracts: no row for %s of %s" % (clause, item)
     for name in sorted(set(library.functions) - functions):
         yield "docs/contracts: no row names the function %s" % name
-    for edit in sorted(library.edits - tried):
+    for edit in sorted(edit for edit in library.edits - tried if edit.split("/")[0] not in PROGRAMS):
         yield "docs/contracts: no row names the must-fail edit %s" % edit
     if markdown != contracts.document(files):
         yield "docs/CONTRACTS.md is not what docs/contracts makes: run python3 docs/contracts.py"

@@ -5,8 +5,8 @@
     python3 docs/stack.py ARCHIVE --check    exit status 1 where the page says otherwise than the code
 
 Every way through a function is followed, with what it has pushed so far; a call adds its return address and what the function takes that is called. Code that
-is not understood (a stack pointer that is moved by something else than a number, a call whose target stands in a register, functions that call each other in a
-circle) is a fault, not a guess. A jump through a table leads, with what is pushed there, to all of the function that nothing else leads to. Needs objdump."""
+is not understood (a stack pointer that is moved by something else than a number, a jump or call whose target stands in a register, functions that call each
+other in a circle) is a fault, not a guess. Needs objdump."""
 import os
 import re
 import subprocess
@@ -16,10 +16,6 @@ import textwrap
 PAGE = os.path.join(os.path.dirname(os.path.abspath(__file__)), "STACK.md")
 WIDTH = 160
 RETURN = 8  # bytes of a return address
-
-
-TABLE = "a place that a table has"
-PADDING = re.compile(r"nop|int3|data16|cs nop|xchg ax,ax")
 
 
 class Fault(Exception):
@@ -63,8 +59,6 @@ def jumps(operation, operands, linked):
     target = re.match(r"([0-9a-f]+) <", operands)
     if operation in ("ret", "ud2"):
         return None, False, None
-    if operation == "jmp" and re.fullmatch(r"r\w+", operands):
-        return TABLE, False, None
     if operation == "call" or operation.startswith("j"):
         if not target and not linked:
             raise Fault("%s %s" % (operation, operands))
@@ -73,23 +67,15 @@ def jumps(operation, operands, linked):
     return None, True, None
 
 
-def from_tables(code, depths, tables):
-    """The next place that nothing leads to but a table, with what is pushed there."""
-    if len(tables) != 1:
-        raise Fault("tables of jumps with %s bytes pushed" % " and ".join(map(str, sorted(tables))))
-    left = (number for number, (_, operation, operands, _) in enumerate(code) if number not in depths and not PADDING.match("%s %s" % (operation, operands)))
-    return [(number, depth) for number in left for depth in tables][:1]
-
-
 def taken(function, functions, above=()):
     """The bytes below the return address that a function takes at most, and whether it writes below its stack pointer."""
     if function in above:
         raise Fault("%s calls itself" % function[1])
     code = functions[function]
     places = {line[0]: number for number, line in enumerate(code)}
-    most, below, depths, ahead, tables = 0, False, {}, [(0, 0)], set()
-    while ahead or tables and from_tables(code, depths, tables):
-        number, depth = (ahead or from_tables(code, depths, tables)).pop()
+    most, below, depths, ahead = 0, False, {}, [(0, 0)]
+    while ahead:
+        number, depth = ahead.pop()
         if number in depths:
             if depths[number] != depth:
                 raise Fault("two depths at %x" % code[number][0])
@@ -106,9 +92,7 @@ def taken(function, functions, above=()):
         if called:
             inner, inner_below = taken((function[0], called), functions, (*above, function))
             most, below = max(most, depth + inner + (RETURN if operation == "call" else 0)), below or inner_below
-        if inside is TABLE:
-            tables.add(depth)
-        elif inside is not None:
+        if inside is not None:
             ahead.append((places[inside], depth))
         if on:
             ahead.append((number + 1, depth))
