@@ -26,7 +26,7 @@ fn said_of(line: &[u8], bytes: &mut [u8]) -> Said {
     if line.is_empty() {
         return Said::Malformed;
     }
-    let words = Words::of(line);
+    let words = Words::of_question(line);
     match names::read(words.name()) {
         None => Said::Unknown,
         Some(name) if words.count == arguments::words_of(name) => {

@@ -20,7 +20,7 @@ pub fn tell<W: Write>(out: &mut W, line: &[u8]) -> io::Result<()> {
             "a question is a name and its arguments; --help lists them\n",
         );
     }
-    let words = Words::of(line);
+    let words = Words::of_question(line);
     match names::read(words.name()) {
         Some(name) => known(out, name, words),
         None => unknown(out, words.name()),
